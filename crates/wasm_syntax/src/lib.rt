@@ -1,0 +1,25 @@
+//! The syntax of modules.
+#![tactic(auto)]
+
+mod code;
+mod flat;
+mod instr;
+mod kind;
+mod maker;
+mod module;
+mod read;
+mod table;
+#[cfg(test)]
+mod tests;
+mod walk;
+
+pub use code::Code;
+pub use flat::{Flat, Head, MAX_ITEMS};
+pub use instr::{Instr, LoadOp, Plain, StoreOp};
+pub use kind::{Kind, Opcode};
+pub use maker::CodeMaker;
+pub use module::{
+    Custom, Elem, Export, ExportKind, Func, FuncType, Global, GlobalType, Import, ImportKind,
+    Limits, Marks, Module, Segment,
+};
+pub use table::{byte_of, opcode};
