@@ -1,5 +1,5 @@
-ghost use Rattle.std.specs.Prelude.{◌≡◌, ◌+◌, ◌-◌, ◌*◌, ◌/◌, ◌%◌, ◌^◌, ◌<◌, int_le, neg_ℤ, pos, ◌<ℤ◌, ◌≤ℤ◌};
-ghost use Rattle.wasm_values.specs.Operators.{IsWidth, operands, unary, binary, signed, unsigned, leading_zeros_of, trailing_zeros_of, quotient, remainder};
+ghost use Rattle.std.specs.Prelude.{◌≡◌, ◌==◌, ◌&&◌, ◌+◌, ◌-◌, ◌*◌, ◌/◌, ◌%◌, ◌^◌, ◌<◌, int_le, neg_ℤ, pos, ◌<ℤ◌, ◌≤ℤ◌};
+ghost use Rattle.wasm_values.specs.Operators.{IsWidth, operands, unary, binary, signed, unsigned, leading_zeros_of, trailing_zeros_of, ones_of, quotient, remainder};
 
 use crate::number::IntOp;
 
@@ -19,7 +19,7 @@ impl<const BITS: u32> Width<BITS> {
             IntOp::Eqz => u64::from(a == 0),
             IntOp::Clz => Self::leading_zeros(a),
             IntOp::Ctz => Self::trailing_zeros(a),
-            IntOp::Popcnt => u64::from(a.count_ones()),
+            IntOp::Popcnt => Self::ones(a),
             _ => unreachable!(),
         }
     }
@@ -79,12 +79,35 @@ impl<const BITS: u32> Width<BITS> {
         u64::from(a.trailing_zeros().min(BITS))
     }
 
-    /// The low `BITS` bits of a number.
+    fn ones(a: u64) -> u64
+        requires { a < 2 ^ BITS }
+        ensures { result ≡ ones_of BITS a }
+    {
+        u64::from(a.count_ones())
+    }
+
+    /// The greatest number, all of whose digits are set. Its signed reading is -1.
+    fn greatest() -> u64
+        requires { IsWidth BITS }
+        ensures { result ≡ 2 ^ BITS - 1 }
+    {
+        u64::MAX >> (64 - BITS)
+    }
+
+    /// The number whose signed reading is the least.
+    fn least() -> u64
+        requires { IsWidth BITS }
+        ensures { result ≡ 2 ^ (BITS - 1) }
+    {
+        1 << (BITS - 1)
+    }
+
+    /// The low `BITS` digits of a number.
     fn wrapped(a: u64) -> u64
         requires { IsWidth BITS }
         ensures { result ≡ a % 2 ^ BITS }
     {
-        a & (u64::MAX >> (64 - BITS))
+        a & Self::greatest()
     }
 
     fn add(a: u64, b: u64) -> u64
@@ -166,15 +189,21 @@ impl<const BITS: u32> Width<BITS> {
         Self::wrapped(value.cast_unsigned())
     }
 
+    /// Whether the least number is divided by -1.
+    fn overflows(a: u64, b: u64) -> bool
+        requires { IsWidth BITS }
+        ensures { result ≡ (a == 2 ^ (BITS - 1)) && (b == 2 ^ BITS - 1) }
+    {
+        a == Self::least() && b == Self::greatest()
+    }
+
     fn quotient(a: u64, b: u64) -> Option<u64>
         requires width { IsWidth BITS }
         requires left { a < 2 ^ BITS }
         requires right { b < 2 ^ BITS }
         ensures { result ≡ quotient BITS a b }
     {
-        let least = 1 << (BITS - 1);
-        let minus_one = u64::MAX >> (64 - BITS);
-        if b == 0 || (a == least && b == minus_one) {
+        if b == 0 || Self::overflows(a, b) {
             return None;
         }
         Some(Self::unsigned(Self::signed(a) / Self::signed(b)))
@@ -189,7 +218,7 @@ impl<const BITS: u32> Width<BITS> {
         if b == 0 {
             return None;
         }
-        let (dividend, divisor) = (Self::signed(a), Self::signed(b));
-        Some(Self::unsigned(if divisor == -1 { 0 } else { dividend % divisor }))
+        let rest = Self::signed(a).wrapping_rem(Self::signed(b));
+        Some(Self::unsigned(rest))
     }
 }
