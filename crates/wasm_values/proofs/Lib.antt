@@ -2,3 +2,4 @@ pub mod WidthLemmas
 pub mod CountLemmas
 pub mod RotationLemmas
 pub mod SignedLemmas
+pub mod RangeLaws

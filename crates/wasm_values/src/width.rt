@@ -1,4 +1,4 @@
-ghost use Rattle.std.specs.Prelude.{◌≡◌, ◌==◌, ◌&&◌, ◌+◌, ◌-◌, ◌*◌, ◌/◌, ◌%◌, ◌^◌, ◌<◌, int_le, neg_ℤ, pos, ◌<ℤ◌, ◌≤ℤ◌};
+ghost use Rattle.std.specs.Prelude.{◌≡◌, ◌==◌, ◌&&◌, ◌+◌, ◌-◌, ◌*◌, ◌/◌, ◌%◌, ◌^◌, ◌<◌, neg_ℤ, pos, ◌<ℤ◌, ◌≤ℤ◌};
 ghost use Rattle.wasm_values.specs.Operators.{IsWidth, operands, unary, binary, signed, unsigned, leading_zeros_of, trailing_zeros_of, ones_of, quotient, remainder};
 
 use crate::number::IntOp;
