@@ -25,7 +25,7 @@ count-below (suc n) t p below above =
 
 -- ---- zeros above all ones
 
-quotient-zero : (a k : ℕ) → a < 2 ^ k → a / 2 ^ k ≡ 0
+pub quotient-zero : (a k : ℕ) → a < 2 ^ k → a / 2 ^ k ≡ 0
 quotient-zero a k h = omega (arith, (div-lt_iff_lt-mul {x = a} {y = 1} (pow_pos k)).1 (omega arith))
 
 below-power : (a k : ℕ) → a / 2 ^ k ≡ 0 → a < 2 ^ k

@@ -3,3 +3,4 @@ pub mod CountLemmas
 pub mod RotationLemmas
 pub mod SignedLemmas
 pub mod RangeLaws
+pub mod ByteLaws

@@ -5,8 +5,10 @@ use Rattle.std.proofs.lemmas.Int.{ints, fits_signed_from_abs, quot_is, to_z-of_z
 use Rattle.std.proofs.lemmas.Nat.{pow_pos}
 use Rattle.std.proofs.lemmas.Bool.{cases_lt, cases_eq, cond-true, cond-false, lt-ltb, le-ltb, eq-eqb, ne_eqb, and_from, both_ways}
 use Rattle.std.proofs.Math.Nat.{div-le_self, div-lt_self, mod-le, pow-suc}
+use Rattle.std.proofs.Math.Pow.{pow_mono}
 use Rattle.wasm_values.proofs.WidthLemmas.{width-positive}
-use Rattle.wasm_values.specs.Operators.{IsWidth, signed, unsigned, quotient, remainder}
+use Rattle.wasm_values.proofs.CountLemmas.{quotient-zero}
+use Rattle.wasm_values.specs.Operators.{IsWidth, signed, unsigned, quotient, remainder, sign_extended}
 
 -- half of the range, twice
 pub twice-half : (n : ℕ) → 0 < n → 2 ^ n ≡ 2 ^ (n - 1) + 2 ^ (n - 1)
@@ -119,3 +121,15 @@ module _ (n a b : ℕ) (x y z : ℤ) (w : IsWidth n) (r : Reads n a x) (s : Read
   pub remainder-is : (v : ℕ) → (b ≡ 0 → ⊥) → v ≡ unsigned n (to_z w64 (of_z w64 z)) → Some v ≡ remainder n a b
   remainder-is v nonzero h =
       ap Some (h ∙ ap (unsigned n) (rest-is ∙ ap₂ int_rem r.value s.value)) ∙ sym (cond-false (eqb b 0) None _ (ne_eqb b 0 nonzero))
+
+-- ---- sign extension
+
+-- a number whose highest digit is set gains the digits above it
+pub sign_extended-high : (from to a r : ℕ) → 0 < from → from ≤ to → a < 2 ^ from → (a / 2 ^ (from - 1) ≡ 0 → ⊥) → r ≡ a + (2 ^ to - 1 - (2 ^ from - 1)) → r ≡ sign_extended from to a
+sign_extended-high from to a r p l h set e =
+    let longer : 2 ^ from ≤ 2 ^ to = pow_mono l in
+    ⊎_elim (λ (small : (a < 2 ^ (from - 1)) × (signed from a ≡ pos a)). absurd (set (quotient-zero a (from - 1) small.0)))
+      (λ (large : (2 ^ (from - 1) ≤ a) × (signed from a ≡ negsuc (2 ^ from - a - 1))).
+      let goal : r ≡ 2 ^ to - (2 ^ from - a - 1 + 1) = omega arith in
+      goal ∙ sym (ap (unsigned to) large.1))
+      (signed-cases from a h)
