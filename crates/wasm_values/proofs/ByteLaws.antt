@@ -1,9 +1,9 @@
 -- Bytes and the numbers that they stand for.
-use Rattle.std.proofs.Common.{◌≡◌, ℕ, zero, suc, ◌+◌, ◌-◌, ◌*◌, ◌/◌, ◌%◌, ◌^◌, ◌<◌, ◌≤◌, List, [], ◌∷◌, ◌++◌, length, get_or, take, drop, replicate, refl, sym, ap, ap₂, ◌∙◌, arith, add-one}
+use Rattle.std.proofs.Common.{◌≡◌, ℕ, zero, suc, ◌+◌, ◌*◌, ◌/◌, ◌%◌, ◌^◌, ◌<◌, ◌≤◌, List, [], ◌∷◌, ◌++◌, length, get_or, take, drop, replicate, refl, sym, ap, ap₂, ◌∙◌, arith}
 use Rattle.std.specs.Int.{w64, from_le_bytes, to_le_bytes, bytes_low_first, byte_at}
 use Rattle.std.proofs.Math.Nat.{div-div-eq-div-mul, pow-suc, div-one, mod-one, one-le-pow}
 use Rattle.std.proofs.Math.Arith.{mod-mul}
-use Rattle.std.proofs.lemmas.Nat.{pow_pos, mod_below}
+use Rattle.std.proofs.lemmas.Nat.{mod_below}
 use Rattle.wasm_values.specs.Operators.{number_of_bytes, bytes_of_number}
 
 -- std's eight bytes, of which those past the given ones are 0
@@ -27,6 +27,7 @@ low_first i (suc k) n = ap₂ (λ x xs. x ∷ xs) (at i) (low_first (suc i) k n 
     at : (i : ℕ) → byte_at i n ≡ n / 256 ^ i % 256
     at zero = ap (λ x. x % 256) (sym (div-one n))
     at (suc i) = refl
+
     further : n / 256 ^ suc i ≡ n / 256 ^ i / 256
     further = ap (λ x. n / x) (pow-suc 256 i) ∙ sym (div-div-eq-div-mul n (256 ^ i) 256)
 

@@ -1,17 +1,17 @@
 -- What the operators give lies in the range of their width.
-use Rattle.std.proofs.Common.{◌≡◌, ℕ, zero, suc, ◌+◌, ◌-◌, ◌*◌, ◌/◌, ◌%◌, ◌^◌, ◌<◌, ◌≤◌, Bool, true, false, cond, ltb, eqb, Option, Some, None, ℤ, pos, negsuc, neg_ℤ, ◌≤ℤ◌, ◌<ℤ◌, int_div, int_rem, refl, sym, ap, ◌∙◌, ◌&&◌, ◌⊎◌, inl, inr, ⊎_elim, arith}
+use Rattle.std.proofs.Common.{◌≡◌, ℕ, zero, suc, ◌+◌, ◌-◌, ◌/◌, ◌%◌, ◌^◌, ◌<◌, ◌≤◌, Bool, true, false, cond, eqb, Some, None, ℤ, pos, negsuc, neg_ℤ, ◌≤ℤ◌, ◌<ℤ◌, int_div, int_rem, refl, inl, inr, ⊎_elim, arith}
 use Rattle.std.specs.Prelude.{IfSome}
 use Rattle.std.specs.Int.{int_shr}
 use Rattle.std.proofs.lemmas.Int.{ints}
 use Rattle.std.proofs.lemmas.Nat.{pow_pos, mod_below, shr_le, and_le_l, or_lt, xor_lt}
-use Rattle.std.proofs.lemmas.Bool.{cases_Bool, cond-true, cond-false, cond_both, eqb-false, and_cases, eqb-true}
+use Rattle.std.proofs.lemmas.Bool.{cond_both}
 use Rattle.std.proofs.Math.Pow.{pow_mono}
 use Rattle.std.proofs.Math.Nat.{div-le_self, mod-le}
 use Rattle.wasm_values.specs.declared.number.IntOp.{IntOp}
 use Rattle.wasm_values.specs.declared.number.IntOp.TheVariants.{Eqz, Eq, Ne, LtS, LtU, GtS, GtU, LeS, LeU, GeS, GeU, Clz, Ctz, Popcnt, Add, Sub, Mul, DivS, DivU, RemS, RemU, And, Or, Xor, Shl, ShrS, ShrU, Rotl, Rotr}
 use Rattle.wasm_values.specs.declared.number.NumOp.{NumOp}
 use Rattle.wasm_values.specs.declared.number.NumOp.TheVariants.{W32, W64, Wrap, ExtendS, ExtendU}
-use Rattle.wasm_values.specs.Operators.{IsWidth, signed, unsigned, truth, count_positions, operands, unary, binary, quotient, remainder, num_width, num_unary, num_binary, width_of, result_type, sign_extended, is_test}
+use Rattle.wasm_values.specs.Operators.{IsWidth, signed, unsigned, truth, count_positions, unary, binary, quotient, remainder, num_width, num_unary, num_binary, width_of, result_type, sign_extended}
 use Rattle.wasm_values.proofs.SignedLemmas.{twice-half, signed-cases, overflow, quotient-range, remainder-range, no-overflow}
 use Rattle.wasm_values.proofs.WidthLemmas.{width-positive}
 use Rattle.wasm_values.proofs.RotationLemmas.{rotated, rotated-right}
@@ -47,14 +47,14 @@ unsigned-lt n (negsuc k) w low high = omega (arith, ints, twice-half n w, pow_po
 pub signed-low : (n a : ℕ) → 0 < n → a < 2 ^ n → neg_ℤ (pos (2 ^ (n - 1))) ≤ℤ signed n a
 signed-low n a w h =
     ⊎_elim (λ (l : (a < 2 ^ (n - 1)) × (signed n a ≡ pos a)). rw l.1 (omega (arith, ints)))
-      (λ (l : (2 ^ (n - 1) ≤ a) × (signed n a ≡ negsuc (2 ^ n - a - 1))). rw l.1 (omega (arith, ints, twice-half n w, pow_pos (n - 1))))
-      (signed-cases n a h)
+    (λ (l : (2 ^ (n - 1) ≤ a) × (signed n a ≡ negsuc (2 ^ n - a - 1))). rw l.1 (omega (arith, ints, twice-half n w, pow_pos (n - 1))))
+    (signed-cases n a h)
 
 pub signed-high : (n a : ℕ) → 0 < n → a < 2 ^ n → signed n a <ℤ pos (2 ^ (n - 1))
 signed-high n a w h =
     ⊎_elim (λ (l : (a < 2 ^ (n - 1)) × (signed n a ≡ pos a)). rw l.1 (omega (arith, ints)))
-      (λ (l : (2 ^ (n - 1) ≤ a) × (signed n a ≡ negsuc (2 ^ n - a - 1))). rw l.1 (omega (arith, ints, pow_pos (n - 1))))
-      (signed-cases n a h)
+    (λ (l : (2 ^ (n - 1) ≤ a) × (signed n a ≡ negsuc (2 ^ n - a - 1))). rw l.1 (omega (arith, ints, pow_pos (n - 1))))
+    (signed-cases n a h)
 
 shifted-range : (h : ℕ) (x : ℤ) (k : ℕ) → neg_ℤ (pos h) ≤ℤ x → x <ℤ pos h → (neg_ℤ (pos h) ≤ℤ int_shr x k) × (int_shr x k <ℤ pos h)
 shifted-range h (pos a) k low high = (omega (arith, ints), omega (arith, ints, shr_le a k))
@@ -63,15 +63,15 @@ shifted-range h (negsuc a) k low high = (omega (arith, ints, shr_le a k), omega 
 quotient-lt : (n a b : ℕ) → IsWidth n → a < 2 ^ n → b < 2 ^ n → IfSome (quotient n a b) (λ r. r < 2 ^ n)
 quotient-lt n a b w ha hb =
     cond_both (eqb b 0) None _ (λ o. IfSome o (λ r. r < 2 ^ n)) (λ e. tt)
-      (λ e. cond_both (overflow n a b) None _ (λ o. IfSome o (λ r. r < 2 ^ n)) (λ f. tt) (λ held.
-        let r = quotient-range (2 ^ (n - 1)) (signed n a) (signed n b) (pow_pos (n - 1)) (signed-low n a (width-positive n w) ha) (signed-high n a (width-positive n w) ha) (no-overflow n a b w ha hb held) in
-        unsigned-lt n (int_div (signed n a) (signed n b)) (width-positive n w) r.0 r.1))
+    (λ e. cond_both (overflow n a b) None _ (λ o. IfSome o (λ r. r < 2 ^ n)) (λ f. tt) (λ held.
+    let r = quotient-range (2 ^ (n - 1)) (signed n a) (signed n b) (pow_pos (n - 1)) (signed-low n a (width-positive n w) ha) (signed-high n a (width-positive n w) ha) (no-overflow n a b w ha hb held) in
+    unsigned-lt n (int_div (signed n a) (signed n b)) (width-positive n w) r.0 r.1))
 
 remainder-lt : (n a b : ℕ) → IsWidth n → a < 2 ^ n → IfSome (remainder n a b) (λ r. r < 2 ^ n)
 remainder-lt n a b w ha =
     cond_both (eqb b 0) None _ (λ o. IfSome o (λ r. r < 2 ^ n)) (λ e. tt) (λ e.
-      let r = remainder-range (2 ^ (n - 1)) (signed n a) (signed n b) (pow_pos (n - 1)) (signed-low n a (width-positive n w) ha) (signed-high n a (width-positive n w) ha) in
-      unsigned-lt n (int_rem (signed n a) (signed n b)) (width-positive n w) r.0 r.1)
+    let r = remainder-range (2 ^ (n - 1)) (signed n a) (signed n b) (pow_pos (n - 1)) (signed-low n a (width-positive n w) ha) (signed-high n a (width-positive n w) ha) in
+    unsigned-lt n (int_rem (signed n a) (signed n b)) (width-positive n w) r.0 r.1)
 
 -- ---- operators of either width
 

@@ -1,7 +1,7 @@
 -- The signed reading of a number, and its range under division.
-use Rattle.std.proofs.Common.{◌≡◌, ℕ, zero, suc, ◌+◌, ◌-◌, ◌*◌, ◌/◌, ◌%◌, ◌^◌, ◌<◌, ◌≤◌, Bool, true, false, cond, ltb, eqb, ℤ, pos, negsuc, neg_ℤ, ◌≤ℤ◌, ◌<ℤ◌, int_div, int_rem, unsigned_abs, Option, Some, None, SFits, to_z, of_z, ◌&&◌, refl, sym, ap, ap₂, ◌∙◌, subst, ◌⊎◌, inl, inr, ⊎_elim, arith}
+use Rattle.std.proofs.Common.{◌≡◌, ℕ, zero, suc, ◌+◌, ◌-◌, ◌/◌, ◌^◌, ◌<◌, ◌≤◌, Bool, false, ltb, eqb, ℤ, pos, negsuc, neg_ℤ, ◌≤ℤ◌, ◌<ℤ◌, int_div, int_rem, unsigned_abs, Some, None, SFits, to_z, of_z, ◌&&◌, refl, sym, ap, ap₂, ◌∙◌, subst, ◌⊎◌, inl, inr, ⊎_elim, arith}
 use Rattle.std.specs.Int.{w64}
-use Rattle.std.proofs.lemmas.Int.{ints, fits_signed_from_abs, quot_is, to_z-of_z}
+use Rattle.std.proofs.lemmas.Int.{ints, quot_is, to_z-of_z}
 use Rattle.std.proofs.lemmas.Nat.{pow_pos}
 use Rattle.std.proofs.lemmas.Bool.{cases_lt, cases_eq, cond-true, cond-false, lt-ltb, le-ltb, eq-eqb, ne_eqb, and_from, both_ways}
 use Rattle.std.proofs.Math.Nat.{div-le_self, div-lt_self, mod-le, pow-suc}
@@ -20,8 +20,8 @@ twice-half n p =
 pub signed-cases : (n a : ℕ) → a < 2 ^ n → ((a < 2 ^ (n - 1)) × (signed n a ≡ pos a)) ⊎ ((2 ^ (n - 1) ≤ a) × (signed n a ≡ negsuc (2 ^ n - a - 1)))
 signed-cases n a h =
     ⊎_elim (λ (l : a < 2 ^ (n - 1)). inl (l, cond-true (ltb a (2 ^ (n - 1))) _ _ (lt-ltb _ _ l)))
-      (λ (l : 2 ^ (n - 1) ≤ a). inr (l, cond-false (ltb a (2 ^ (n - 1))) _ _ (le-ltb _ _ l) ∙ omega (arith, ints)))
-      (cases_lt a (2 ^ (n - 1)))
+    (λ (l : 2 ^ (n - 1) ≤ a). inr (l, cond-false (ltb a (2 ^ (n - 1))) _ _ (le-ltb _ _ l) ∙ omega (arith, ints)))
+    (cases_lt a (2 ^ (n - 1)))
 
 -- the quotients and remainders of a dividend from -h up to h
 pub quotient-range : (h : ℕ) (x y : ℤ) → 0 < h → neg_ℤ (pos h) ≤ℤ x → x <ℤ pos h → (x ≡ neg_ℤ (pos h) → y ≡ negsuc 0 → ⊥)
@@ -29,9 +29,11 @@ pub quotient-range : (h : ℕ) (x y : ℤ) → 0 < h → neg_ℤ (pos h) ≤ℤ 
 quotient-range h (pos a) (pos b) p low high other = (omega (arith, ints), omega (arith, ints, div-le_self a b))
 quotient-range h (pos a) (negsuc b) p low high other = (omega (arith, ints, div-le_self a (suc b)), omega (arith, ints))
 quotient-range h (negsuc a) (pos b) p low high other = (omega (arith, ints, div-le_self (suc a) b), omega (arith, ints))
-quotient-range h (negsuc a) (negsuc zero) p low high other =
-    (omega (arith, ints), ⊎_elim (λ (e : suc a ≡ h). absurd (other (subst (λ k. negsuc a ≡ neg_ℤ (pos k)) e refl) refl))
-    (λ (ne : suc a ≡ h → ⊥). omega (arith, ints)) (cases_eq (suc a) h))
+quotient-range h (negsuc a) (negsuc zero) p low high other = (
+  omega (arith, ints),
+  ⊎_elim (λ (e : suc a ≡ h). absurd (other (subst (λ k. negsuc a ≡ neg_ℤ (pos k)) e refl) refl))
+      (λ (ne : suc a ≡ h → ⊥). omega (arith, ints)) (cases_eq (suc a) h),
+)
 quotient-range h (negsuc a) (negsuc (suc b)) p low high other =
     let less : suc a / suc (suc b) < suc a = div-lt_self (omega arith) (omega arith) in
     (omega (arith, ints), omega (arith, ints))
@@ -66,14 +68,14 @@ reads-fits n a x w r = fits (2 ^ (n - 1)) x (half-within n w) r.low r.high
 pub least-from : (n a : ℕ) → IsWidth n → a < 2 ^ n → signed n a ≡ neg_ℤ (pos (2 ^ (n - 1))) → a ≡ 2 ^ (n - 1)
 least-from n a w h e =
     ⊎_elim (λ (l : (a < 2 ^ (n - 1)) × (signed n a ≡ pos a)). let same : pos a ≡ neg_ℤ (pos (2 ^ (n - 1))) = sym l.1 ∙ e in omega (arith, ints, pow_pos (n - 1)))
-      (λ (l : (2 ^ (n - 1) ≤ a) × (signed n a ≡ negsuc (2 ^ n - a - 1))). let same : negsuc (2 ^ n - a - 1) ≡ neg_ℤ (pos (2 ^ (n - 1))) = sym l.1 ∙ e in omega (arith, ints, twice-half n (width-positive n w)))
-      (signed-cases n a h)
+    (λ (l : (2 ^ (n - 1) ≤ a) × (signed n a ≡ negsuc (2 ^ n - a - 1))). let same : negsuc (2 ^ n - a - 1) ≡ neg_ℤ (pos (2 ^ (n - 1))) = sym l.1 ∙ e in omega (arith, ints, twice-half n (width-positive n w)))
+    (signed-cases n a h)
 
 pub minus_one-from : (n b : ℕ) → b < 2 ^ n → signed n b ≡ negsuc 0 → b ≡ 2 ^ n - 1
 minus_one-from n b h e =
     ⊎_elim (λ (l : (b < 2 ^ (n - 1)) × (signed n b ≡ pos b)). let same : pos b ≡ negsuc 0 = sym l.1 ∙ e in omega (arith, ints))
-      (λ (l : (2 ^ (n - 1) ≤ b) × (signed n b ≡ negsuc (2 ^ n - b - 1))). let same : negsuc (2 ^ n - b - 1) ≡ negsuc 0 = sym l.1 ∙ e in omega (arith, ints))
-      (signed-cases n b h)
+    (λ (l : (2 ^ (n - 1) ≤ b) × (signed n b ≡ negsuc (2 ^ n - b - 1))). let same : negsuc (2 ^ n - b - 1) ≡ negsuc 0 = sym l.1 ∙ e in omega (arith, ints))
+    (signed-cases n b h)
 
 abbrev pub overflow : ℕ → ℕ → ℕ → Bool
 overflow n a b = eqb a (2 ^ (n - 1)) && eqb b (2 ^ n - 1)
@@ -129,7 +131,7 @@ pub sign_extended-high : (from to a r : ℕ) → 0 < from → from ≤ to → a 
 sign_extended-high from to a r p l h set e =
     let longer : 2 ^ from ≤ 2 ^ to = pow_mono l in
     ⊎_elim (λ (small : (a < 2 ^ (from - 1)) × (signed from a ≡ pos a)). absurd (set (quotient-zero a (from - 1) small.0)))
-      (λ (large : (2 ^ (from - 1) ≤ a) × (signed from a ≡ negsuc (2 ^ from - a - 1))).
-      let goal : r ≡ 2 ^ to - (2 ^ from - a - 1 + 1) = omega arith in
-      goal ∙ sym (ap (unsigned to) large.1))
-      (signed-cases from a h)
+    (λ (large : (2 ^ (from - 1) ≤ a) × (signed from a ≡ negsuc (2 ^ from - a - 1))).
+    let goal : r ≡ 2 ^ to - (2 ^ from - a - 1 + 1) = omega arith in
+    goal ∙ sym (ap (unsigned to) large.1))
+    (signed-cases from a h)

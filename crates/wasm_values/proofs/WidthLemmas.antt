@@ -1,5 +1,5 @@
 -- The two widths of integers.
-use Rattle.std.proofs.Common.{◌≡◌, ℕ, ◌<◌, ◌≤◌, inl, inr, arith}
+use Rattle.std.proofs.Common.{ℕ, ◌<◌, ◌≤◌, inl, inr, arith}
 use Rattle.wasm_values.specs.Operators.{IsWidth}
 
 pub width-within : (n : ℕ) → IsWidth n → n ≤ 64

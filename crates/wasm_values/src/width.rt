@@ -4,7 +4,6 @@ ghost use Rattle.wasm_values.specs.Operators.{IsWidth, operands, unary, binary, 
 use crate::number::IntOp;
 
 /// Integers of `BITS` bits, held as numbers below 2 to the power of `BITS`.
-#[derive(Clone, Copy, Debug)]
 pub struct Width<const BITS: u32>;
 
 impl<const BITS: u32> Width<BITS> {

@@ -1,4 +1,4 @@
-use Rattle.std.proofs.Common.{◌<◌, ◌^◌, inl, refl, sym, arith}
+use Rattle.std.proofs.Common.{inl, refl}
 use Rattle.wasm_values.proofs.RangeLaws.{unary-lt}
 use Rattle.wasm_values.proofs.numeric.num1.Goals as goal
 

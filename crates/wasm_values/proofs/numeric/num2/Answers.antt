@@ -7,5 +7,5 @@ use Rattle.wasm_values.proofs.numeric.num2.Goals as goal
 pub narrow-requires : goal.narrow-requires
 narrow-requires c =
     let given : binary 32 c.in-W32-I32-I32.op c.from.result c.from-in-W32-I32-I32.result ≡ Some c.in_ok-given-in-W32-I32-I32.given =
-      sym c.two.ensures ∙ c.in_ok-given-in-W32-I32-I32.was in
+    sym c.two.ensures ∙ c.in_ok-given-in-W32-I32-I32.was in
     subst (λ o. IfSome o (λ r. r < 2 ^ 32)) given (binary-lt 32 c.in-W32-I32-I32.op c.from.result c.from-in-W32-I32-I32.result (inl refl) (search rules) (search rules))

@@ -26,6 +26,6 @@ unsigned-requires-clause-high g c =
 pub returns : goal.returns
 returns g c =
     quotient-is g.row.BITS c.args.a c.args.b c.signed.result c.signed-2.result c.requires.width
-      record { below = c.requires.left; value = c.signed.ensures.value; low = c.signed.ensures.low; high = c.signed.ensures.high }
-      record { below = c.requires.right; value = c.signed-2.ensures.value; low = c.signed-2.ensures.low; high = c.signed-2.ensures.high }
-      (sym c.overflows.ensures ∙ c.if-overflows.false) c.unsigned.result c.if-b-eq0.false c.unsigned.ensures
+    record { below = c.requires.left; value = c.signed.ensures.value; low = c.signed.ensures.low; high = c.signed.ensures.high }
+    record { below = c.requires.right; value = c.signed-2.ensures.value; low = c.signed-2.ensures.low; high = c.signed-2.ensures.high }
+    (sym c.overflows.ensures ∙ c.if-overflows.false) c.unsigned.result c.if-b-eq0.false c.unsigned.ensures

@@ -1,4 +1,4 @@
-use Rattle.std.proofs.Common.{rules, SFits, w64}
+use Rattle.std.proofs.Common.{SFits, w64}
 use Rattle.wasm_values.proofs.SignedLemmas.{Reads, rest-low, rest-high, remainder-is}
 use Rattle.wasm_values.proofs.width.Width.remainder.Given.{Over}
 use Rattle.wasm_values.proofs.width.Width.remainder.Goals.{After-wrapping_rem-rest}
@@ -26,6 +26,6 @@ unsigned-requires-clause-high g c =
 pub returns : goal.returns
 returns g c =
     remainder-is g.row.BITS c.args.a c.args.b c.signed.result c.signed-2.result c.wrapping_rem-rest.result c.requires.width
-      record { below = c.requires.left; value = c.signed.ensures.value; low = c.signed.ensures.low; high = c.signed.ensures.high }
-      record { below = c.requires.right; value = c.signed-2.ensures.value; low = c.signed-2.ensures.low; high = c.signed-2.ensures.high }
-      record { sfits = c.wrapping_rem-rest.type_inv } c.wrapping_rem-rest.ensures c.unsigned.result c.if-b-eq0.false c.unsigned.ensures
+    record { below = c.requires.left; value = c.signed.ensures.value; low = c.signed.ensures.low; high = c.signed.ensures.high }
+    record { below = c.requires.right; value = c.signed-2.ensures.value; low = c.signed-2.ensures.low; high = c.signed-2.ensures.high }
+    record { sfits = c.wrapping_rem-rest.type_inv } c.wrapping_rem-rest.ensures c.unsigned.result c.if-b-eq0.false c.unsigned.ensures
