@@ -4,3 +4,4 @@ pub mod RotationLemmas
 pub mod SignedLemmas
 pub mod RangeLaws
 pub mod ByteLaws
+pub mod UndefinedLaws

@@ -449,27 +449,26 @@ fn instructions_and_bytes(rt: HostRuntime) {
     assert_eq!(rt; into, [0x56, 0x34]);
 }
 
-fn failed(error: OutOfMemory) -> &'static str {
-    let _ = error;
-    "out of memory"
-}
-
 #[test]
 fn lists_bytes_and_texts(rt: HostRuntime) -> Result<(), Fail> {
     let alloc = rt.alloc();
     let mut bytes = Bytes::new(alloc);
-    bytes.push(b'o').map_err(failed)?;
-    bytes.push(b'k').map_err(failed)?;
-    assert!(rt; bytes.copy(alloc).map_err(failed)? == bytes);
-    let text = Text::from_str(alloc, "ok").map_err(failed)?;
-    assert_eq!(rt; text.copy(alloc).map_err(failed)?.as_str(), "ok");
+    bytes.push(b'o')?;
+    bytes.push(b'k')?;
+    assert!(rt; bytes.copy(alloc)? == bytes);
+    let text = Text::from_str(alloc, "ok")?;
+    assert!(rt; text.copy(alloc)? == text);
+    assert_eq!(rt; text.as_str().as_bytes(), bytes.as_slice());
     let mut list = List::new(alloc);
-    list.push(bytes).map_err(failed)?;
-    list.push(Bytes::new(alloc)).map_err(failed)?;
-    let mut copied = list.copy(alloc).map_err(failed)?;
+    list.push(bytes)?;
+    list.push(Bytes::from_vec(vec![in alloc; 1, 2]?))?;
+    let mut copied = list.copy(alloc)?;
     assert!(rt; copied == list);
     copied.truncate(1);
     assert_eq!(rt; copied.len(), 1);
     assert!(rt; copied.pop().is_some() && copied.pop().is_none());
+    let mut texts = List::from_vec(Vec::new(alloc));
+    texts.push(text)?;
+    assert_eq!(rt; texts.copy(alloc)?.into_vec().len(), 1);
     Ok(())
 }

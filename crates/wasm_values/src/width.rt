@@ -62,6 +62,7 @@ impl<const BITS: u32> Width<BITS> {
         }
     }
 
+    /// The digits from `BITS` to 63 are zeros that std counts too.
     fn leading_zeros(a: u64) -> u64
         requires width { IsWidth BITS }
         requires operand { a < 2 ^ BITS }
