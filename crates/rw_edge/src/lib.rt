@@ -1,0 +1,14 @@
+//! The traits of the outside: shelves that files are read from, sinks that text is written to.
+#![tactic(auto)]
+
+mod error;
+mod reading;
+mod shelf;
+mod sink;
+mod writing;
+
+pub use error::{Failed, ReadFault};
+pub use reading::read_file;
+pub use shelf::Shelf;
+pub use sink::Sink;
+pub use writing::emit;
