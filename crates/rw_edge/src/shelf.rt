@@ -34,7 +34,7 @@ pub trait Shelf {
         ensures fits { IfOk result (λ n. n ≤ length into.old) }
         ensures moved { IfOk result (λ n. Consumes (left self.old) (left self.new) (take n into.new)) }
         ensures behind { IfOk result (λ n. drop n into.new ≡ drop n into.old) }
-        ensures end { IfOk result (λ n. n ≡ 0 → 0 < length into.old → IsAtEnd (left self.old)) }
+        ensures end { IfOk result (λ n. n ≡ 0 → 0 < length into.old → IsAtEnd (left self.new)) }
         ensures failed { OnErr result (Faulted (faults self.old) (faults self.new)) }
         ensures unchanged { OnErr result (into.new ≡ into.old) };
 
