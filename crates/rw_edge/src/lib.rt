@@ -1,13 +1,16 @@
 //! The traits of the outside: shelves that files are read from, sinks that text is written to.
 #![tactic(auto)]
 
+mod calls;
 mod error;
+mod mem_sink;
 mod reading;
 mod shelf;
 mod sink;
 mod writing;
 
 pub use error::{Failed, ReadFault};
+pub use mem_sink::MemSink;
 pub use reading::read_file;
 pub use shelf::Shelf;
 pub use sink::Sink;

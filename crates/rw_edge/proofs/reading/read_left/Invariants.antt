@@ -7,7 +7,7 @@ invariant-loop-bytes g l = record {
   allowed : vec_len l.bytes ≤ l.limit;
   files : g.S.Shelf.files l.shelf ≡ g.S.Shelf.files l.fn.shelf;
   no_lower : g.S.Shelf.faults l.fn.shelf ≤ g.S.Shelf.faults l.shelf;
-  consumed : Consumes (g.S.Shelf.left l.fn.shelf) (g.S.Shelf.left l.shelf) l.bytes.items
+  consumed : Consumes (g.S.Shelf.left l.fn.shelf) (g.S.Shelf.left l.shelf) l.bytes.items;
 }
 
 abbrev pub decreases-loop-bytes : goal.decreases-loop-bytes

@@ -8,5 +8,5 @@ loop-at-preserved g c = record {
   told = c.in_ok-at.ensures.told ∙ c.loop-at.invariant.told;
   no_lower = omega (arith, c.loop-at.invariant.no_lower, c.write.ensures.count.no_lower);
   within = λ _. c.write.ensures.count.within;
-  appended = Appends-next _ _ _ _ _ _ c.loop-at.invariant.appended c.in_ok-at.ensures.appended
+  appended = Appends-next _ _ _ _ _ _ c.loop-at.invariant.appended c.in_ok-at.ensures.appended;
 }

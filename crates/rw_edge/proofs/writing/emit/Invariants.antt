@@ -9,7 +9,7 @@ invariant-loop-at g l = record {
   told : is_some (g.K.Sink.written l.sink) ≡ is_some (g.K.Sink.written l.fn.sink);
   no_lower : g.K.Sink.faults l.fn.sink ≤ g.K.Sink.faults l.sink;
   within : 0 < l.at → g.K.Sink.faults l.sink ≤ last_count;
-  appended : Appends (g.K.Sink.written l.fn.sink) (g.K.Sink.written l.sink) (take l.at l.text)
+  appended : Appends (g.K.Sink.written l.fn.sink) (g.K.Sink.written l.sink) (take l.at l.text);
 }
 
 abbrev pub decreases-loop-at : goal.decreases-loop-at
