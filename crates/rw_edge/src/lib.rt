@@ -3,6 +3,7 @@
 
 mod calls;
 mod error;
+mod mem_shelf;
 mod mem_sink;
 mod reading;
 mod shelf;
@@ -10,6 +11,7 @@ mod sink;
 mod writing;
 
 pub use error::{Failed, ReadFault};
+pub use mem_shelf::MemShelf;
 pub use mem_sink::MemSink;
 pub use reading::read_file;
 pub use shelf::Shelf;
