@@ -1,5 +1,5 @@
 -- Shelves and sinks in memory, whose calls fail at chosen numbers.
-use Rattle.std.specs.Prelude.{ℕ, List, [], ◌∷◌, Option, None, Some, slice_index_or, drop}
+use Rattle.std.specs.Prelude.{ℕ, List, [], Option, None, Some, slice_index_or}
 
 -- What a shelf in memory is: its files, each by its name and contents, the numbers of the calls that fail, the number
 -- of the next call, the count of faults, and the bytes left of the file that is being read.

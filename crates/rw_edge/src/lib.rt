@@ -21,3 +21,6 @@ pub use shelf::Shelf;
 pub use sink::Sink;
 pub use std_sink::StdSink;
 pub use writing::emit;
+
+#[cfg(test)]
+mod tests;

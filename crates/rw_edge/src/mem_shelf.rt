@@ -1,5 +1,5 @@
 //! A shelf in memory.
-ghost use Rattle.std.specs.Prelude.{◌≡◌, ◌≢◌, ◌+◌, ◌^◌, ◌≤◌, ◌<◌, ◌⊎◌, ◌↔◌, ℕ, [], ◌++◌, Some, None, IfOk, OnOk, OnErr, IsErr, IsNone, IsSomeAnd, MatchOption, Contains, length, min, take, drop};
+ghost use Rattle.std.specs.Prelude.{◌≡◌, ◌+◌, ◌^◌, ◌≤◌, ◌<◌, ◌⊎◌, ◌↔◌, ℕ, [], ◌++◌, Some, None, IfOk, OnOk, OnErr, IsErr, IsNone, IsSome, MatchOption, Contains, length, min, take, drop};
 ghost use Rattle.std.specs.Io.KnownBytes.{Consumes, IsAtEnd};
 ghost use Rattle.rw_edge.specs.Count.{NeverFalls, next_count};
 ghost use Rattle.rw_edge.specs.Files.{contents_of};
@@ -111,8 +111,8 @@ impl Shelf for MemShelf {
         ensures number { self.new.number ≡ next_count self.old.number }
         ensures begun { OnOk result (contents_of self.old.files name.now ≡ Some self.new.left) }
         ensures ok { OnOk result (self.new.faults ≡ self.old.faults) }
-        ensures missing { contents_of self.old.files name.now ≡ None → self.new.faults ≡ self.old.faults }
-        ensures err { OnErr result (contents_of self.old.files name.now ≢ None → self.new.faults ≡ next_count self.old.faults) }
+        ensures missing { IsNone (contents_of self.old.files name.now) → self.new.faults ≡ self.old.faults }
+        ensures err { OnErr result (IsSome (contents_of self.old.files name.now) → self.new.faults ≡ next_count self.old.faults) }
     {
         let Some(place) = place_of(&self.files, name) else {
             self.calls.count();
