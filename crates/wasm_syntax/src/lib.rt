@@ -8,6 +8,7 @@ mod kind;
 mod laws;
 mod maker;
 mod module;
+mod next;
 mod read;
 mod table;
 #[cfg(test)]
@@ -24,4 +25,5 @@ pub use module::{
     Custom, Elem, Export, ExportKind, Func, FuncType, Global, GlobalType, Import, ImportKind,
     Limits, Marks, Module, Segment,
 };
+pub use next::Next;
 pub use table::{byte_of, opcode};
