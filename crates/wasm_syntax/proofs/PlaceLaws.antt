@@ -24,7 +24,7 @@ simple_size : (i : Instr) → is_simple i ≡ true → length (flat_of i) ≡ 1
 simple_size i e = ap length (flat_of-simple i e)
 
 mutual
-  size_from : (t : Instruction) → length (flat_of (instr_from t)) ≡ size_of t
+  pub size_from : (t : Instruction) → length (flat_of (instr_from t)) ≡ size_of t
   size_from (tree.Block ty body) = ap length (flat_of-Block ty (instrs_from body)) ∙ part_size (Block ty) (flat (instrs_from body)) (size_of_all body) (size_from_all body)
   size_from (tree.Loop ty body) = ap length (flat_of-Loop ty (instrs_from body)) ∙ part_size (Loop ty) (flat (instrs_from body)) (size_of_all body) (size_from_all body)
   size_from (tree.If ty first) = ap length (flat_of-If ty (instrs_from first)) ∙ part_size (If ty) (flat (instrs_from first)) (size_of_all first) (size_from_all first)
@@ -47,7 +47,7 @@ mutual
   size_from (tree.Call f) = simple_size (instr.Call f) refl
   size_from (tree.CallIndirect t) = simple_size (instr.CallIndirect t) refl
 
-  size_from_all : (s : Sequence) → length (flat (instrs_from s)) ≡ size_of_all s
+  pub size_from_all : (s : Sequence) → length (flat (instrs_from s)) ≡ size_of_all s
   size_from_all Empty = refl
   size_from_all (Then i s) =
       let head = size_from i in

@@ -1,5 +1,5 @@
 -- The numbers of instructions: an instruction's number is its place among the items of its function's body.
-use Rattle.std.specs.Prelude.{◌≡◌, ℕ, ◌+◌, ◌<◌, ◌≤◌, ◌⊎◌, length, List, Option, IsTrue}
+use Rattle.std.specs.Prelude.{◌≡◌, ℕ, ◌+◌, ◌<◌, ◌≤◌, ◌⊎◌, length, slice_get, List, Option, Some, IsTrue}
 use Rattle.wasm_values.specs.declared.number.ValType.{ValType}
 use Rattle.wasm_syntax.specs.declared.instr.Instr.{Instr}
 use Rattle.wasm_syntax.specs.declared.next.Next.{Next}
@@ -9,7 +9,7 @@ use Rattle.wasm_syntax.specs.declared.flat.Flat.TheVariants.{One, Block, Loop, I
 use Rattle.wasm_syntax.specs.FlatForm.{is_simple, flat_body}
 use Rattle.wasm_syntax.specs.Sides.{rest_from}
 use Rattle.wasm_syntax.specs.Trees as tree
-use Rattle.wasm_syntax.specs.Trees.{Instruction, Sequence, Empty, Then, IfElse, sequence_of, instruction_of}
+use Rattle.wasm_syntax.specs.Trees.{Instruction, Sequence, Empty, Then, IfElse, sequence_of, instruction_of, instr_from}
 
 abbrev mutual
   -- How many places an instruction takes: its own, those of the instructions in it, and one for each `else` and `end`
@@ -29,6 +29,36 @@ abbrev mutual
 -- The sequence that is left of a body's innermost open part from a place on, up to the part's next `else` or `end`.
 unfoldable pub rest_at : List Instr → ℕ → Sequence
 rest_at body p = sequence_of (rest_from body p)
+
+-- The item at an instruction's own place.
+abbrev pub item_of : Instruction → Flat
+item_of (tree.Block ty body) = Block ty
+item_of (tree.Loop ty body) = Loop ty
+item_of (tree.If ty first) = If ty
+item_of (IfElse ty first second) = If ty
+item_of i = One (instr_from i)
+
+-- A place of a body is that of an `else` or an `end`, where nothing is left of the innermost part.
+pub record StopsAt (body : List Instr) (p : ℕ) : Type 0 where
+  pub item : (slice_get (flat_body body) p ≡ Some Else) ⊎ (slice_get (flat_body body) p ≡ Some End)
+  pub rest : rest_at body p ≡ Empty
+
+-- The sequences in an instruction that stands at a place begin after that place, and the second side of an `if` after
+-- its `else`.
+abbrev pub HasPartsAt : List Instr → ℕ → Instruction → Type 0
+HasPartsAt body p (tree.Block ty inside) = rest_at body (p + 1) ≡ inside
+HasPartsAt body p (tree.Loop ty inside) = rest_at body (p + 1) ≡ inside
+HasPartsAt body p (tree.If ty first) = rest_at body (p + 1) ≡ first
+HasPartsAt body p (IfElse ty first second) =
+    (rest_at body (p + 1) ≡ first) × (slice_get (flat_body body) (p + 1 + size_of_all first) ≡ Some Else) × (rest_at body (p + 1 + size_of_all first + 1) ≡ second)
+HasPartsAt body p _ = Unit {0}
+
+-- An instruction stands at a place, its parts at theirs, and a sequence at the place after it.
+pub record InstructionAt (body : List Instr) (p : ℕ) (i : Instruction) (s : Sequence) : Type 0 where
+  pub item : slice_get (flat_body body) p ≡ Some (item_of i)
+  pub within : p + size_of i < length (flat_body body)
+  pub rest : rest_at body (p + size_of i) ≡ s
+  pub parts : HasPartsAt body p i
 
 -- What stands at a place, as the item there.
 abbrev pub next_item : Next → Flat

@@ -5,7 +5,7 @@ mod code;
 mod flat;
 mod instr;
 mod kind;
-mod laws;
+pub mod laws;
 mod maker;
 mod module;
 mod next;
@@ -19,7 +19,6 @@ pub use code::Code;
 pub use flat::{Flat, Head, MAX_ITEMS};
 pub use instr::{Instr, LoadOp, Plain, StoreOp};
 pub use kind::{Kind, Opcode};
-pub use laws::trees_are_one_to_one;
 pub use maker::CodeMaker;
 pub use module::{
     Custom, Elem, Export, ExportKind, Func, FuncType, Global, GlobalType, Import, ImportKind,
