@@ -1,4 +1,4 @@
-//! The syntax of modules.
+//! The syntax of modules, and the bytes of instructions. Sections are those of the WebAssembly Core Specification 1.0.
 #![tactic(auto)]
 
 mod code;
