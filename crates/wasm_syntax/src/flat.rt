@@ -7,7 +7,8 @@ use wasm_values::{Duplicate, OutOfMemory, ValType};
 /// The most items that code has, so that a `u32` counts them.
 pub const MAX_ITEMS: usize = 4_294_967_295;
 
-/// An item of flat code. `One` holds no block, loop or if.
+/// An item of code in the order of the file (section 5.4). `One` holds no block, loop or if, which are spread over their
+/// own items.
 #[derive(Debug, PartialEq, Drop)]
 pub enum Flat {
     One(Instr),
@@ -18,7 +19,7 @@ pub enum Flat {
     End,
 }
 
-/// What begins a part.
+/// What begins a part: a block, loop or if, with its result type (section 2.4.5).
 #[derive(Clone, Copy, Debug, PartialEq, Eq)]
 pub enum Head {
     Block(Option<ValType>),
@@ -27,6 +28,7 @@ pub enum Head {
 }
 
 impl Flat {
+    /// An item that equals this one.
     pub fn copy(&self, alloc: Global) -> Result<Flat, OutOfMemory>
         ensures { IfOk result (λ copied. copied ≡ self.now) }
     {

@@ -3,7 +3,7 @@ ghost use Rattle.std.specs.Prelude.{◌≡◌, [], ◌∷◌, ◌++◌, IfOk};
 use std::alloc::Global;
 use wasm_values::{Duplicate, List, NumOp, OutOfMemory, Val, ValType};
 
-/// An instruction without immediates that is no numeric operator.
+/// An instruction without immediates that is no numeric operator (sections 2.4.2, 2.4.4 and 2.4.5).
 #[derive(Clone, Copy, Debug, PartialEq, Eq)]
 pub enum Plain {
     Unreachable,
@@ -15,6 +15,7 @@ pub enum Plain {
     MemoryGrow,
 }
 
+/// A load, by the type of its result and the width and extension of what it reads (section 2.4.4).
 #[derive(Clone, Copy, Debug, PartialEq, Eq)]
 pub enum LoadOp {
     I32Load,
@@ -31,6 +32,7 @@ pub enum LoadOp {
     I64Load32U,
 }
 
+/// A store, by the type of its operand and the width of what it writes (section 2.4.4).
 #[derive(Clone, Copy, Debug, PartialEq, Eq)]
 pub enum StoreOp {
     I32Store,
@@ -42,7 +44,8 @@ pub enum StoreOp {
     I64Store32,
 }
 
-/// An instruction as a tree. The numbers of a load or store are the alignment exponent and the offset.
+/// An instruction with the instructions in it (section 2.4). The numbers of a load or store are the alignment exponent and
+/// the offset; those of the others are numbers of locals, globals, labels, functions and types.
 #[derive(Debug, PartialEq, Drop)]
 pub enum Instr {
     Plain(Plain),

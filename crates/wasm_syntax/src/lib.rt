@@ -1,12 +1,14 @@
-//! The syntax of modules.
+//! The syntax of modules, and the bytes of instructions. Sections are those of the WebAssembly Core Specification 1.0.
 #![tactic(auto)]
 
 mod code;
 mod flat;
 mod instr;
 mod kind;
+pub mod laws;
 mod maker;
 mod module;
+mod next;
 mod read;
 mod table;
 #[cfg(test)]
@@ -22,4 +24,5 @@ pub use module::{
     Custom, Elem, Export, ExportKind, Func, FuncType, Global, GlobalType, Import, ImportKind,
     Limits, Marks, Module, Segment,
 };
+pub use next::Next;
 pub use table::{byte_of, opcode};

@@ -5,18 +5,22 @@ use crate::instr::Instr;
 use std::alloc;
 use wasm_values::{Bytes, Duplicate, List, OutOfMemory, Text, ValType};
 
+/// The limits of a table or memory: its size in elements or pages at first, and the greatest, if there is one (section
+/// 2.3.4).
 #[derive(Clone, Copy, Debug, PartialEq, Eq)]
 pub struct Limits {
     pub min: u32,
     pub max: Option<u32>,
 }
 
+/// The type of a global: that of its value, and whether it may be written (section 2.3.7).
 #[derive(Clone, Copy, Debug, PartialEq, Eq)]
 pub struct GlobalType {
     pub value: ValType,
     pub mutable: bool,
 }
 
+/// What an import is: a function by the number of its type, or a table, memory or global by its type (section 2.5.11).
 #[derive(Clone, Copy, Debug, PartialEq, Eq)]
 pub enum ImportKind {
     Func(u32),
@@ -25,6 +29,7 @@ pub enum ImportKind {
     Global(GlobalType),
 }
 
+/// What an export is: a function, table, memory or global by its number (section 2.5.10).
 #[derive(Clone, Copy, Debug, PartialEq, Eq)]
 pub enum ExportKind {
     Func(u32),
@@ -33,60 +38,70 @@ pub enum ExportKind {
     Global(u32),
 }
 
-#[derive(Drop)]
+/// The type of a function (section 2.3.3).
+#[derive(Debug, PartialEq, Drop)]
 pub struct FuncType {
     pub params: List<ValType>,
     pub results: List<ValType>,
 }
 
-#[derive(Drop)]
+/// An import, by its two names (section 2.5.11).
+#[derive(Debug, Drop)]
 pub struct Import {
     pub module: Text,
     pub name: Text,
     pub kind: ImportKind,
 }
 
-#[derive(Drop)]
+/// An export, by its name (section 2.5.10).
+#[derive(Debug, Drop)]
 pub struct Export {
     pub name: Text,
     pub kind: ExportKind,
 }
 
-#[derive(Drop)]
+/// A global that the module defines, with the expression of its first value (section 2.5.6).
+#[derive(Debug, PartialEq, Drop)]
 pub struct Global {
     pub ty: GlobalType,
     pub init: List<Instr>,
 }
 
-#[derive(Drop)]
+/// A function that the module defines: the number of its type, its locals after the parameters, and its body (section
+/// 2.5.3).
+#[derive(Debug, Drop)]
 pub struct Func {
     pub ty: u32,
     pub locals: List<ValType>,
     pub body: Code,
 }
 
-#[derive(Drop)]
+/// An element segment: the functions that go into a table from the offset on (section 2.5.7).
+#[derive(Debug, PartialEq, Drop)]
 pub struct Elem {
     pub table: u32,
     pub offset: List<Instr>,
     pub funcs: List<u32>,
 }
 
-#[derive(Drop)]
+/// A data segment: the bytes that go into a memory from the offset on (section 2.5.8).
+#[derive(Debug, Drop)]
 pub struct Segment {
     pub memory: u32,
     pub offset: List<Instr>,
     pub bytes: Bytes,
 }
 
-#[derive(Drop)]
+/// A custom section. `after` is the id of the last other section before it that has an entry, or 0 (section 5.5.3).
+#[derive(Debug, Drop)]
 pub struct Custom {
     pub after: u8,
     pub name: Text,
     pub bytes: Bytes,
 }
 
-#[derive(Drop)]
+/// A module (section 2.5).
+#[derive(Debug, Drop)]
 pub struct Module {
     pub types: List<FuncType>,
     pub imports: List<Import>,
@@ -108,6 +123,7 @@ impl Duplicate for Limits {
 }
 
 impl FuncType {
+    /// A function type that equals this one.
     pub fn copy(&self, alloc: alloc::Global) -> Result<FuncType, OutOfMemory>
         ensures { IfOk result (λ copied. copied ≡ self.now) }
     {
@@ -125,6 +141,7 @@ impl Duplicate for FuncType {
 }
 
 impl Import {
+    /// An import that equals this one.
     pub fn copy(&self, alloc: alloc::Global) -> Result<Import, OutOfMemory>
         ensures { IfOk result (λ copied. copied ≡ self.now) }
     {
@@ -143,6 +160,7 @@ impl Duplicate for Import {
 }
 
 impl Export {
+    /// An export that equals this one.
     pub fn copy(&self, alloc: alloc::Global) -> Result<Export, OutOfMemory>
         ensures { IfOk result (λ copied. copied ≡ self.now) }
     {
@@ -160,6 +178,7 @@ impl Duplicate for Export {
 }
 
 impl Global {
+    /// A global that equals this one.
     pub fn copy(&self, alloc: alloc::Global) -> Result<Global, OutOfMemory>
         ensures { IfOk result (λ copied. copied ≡ self.now) }
     {
@@ -177,6 +196,7 @@ impl Duplicate for Global {
 }
 
 impl Func {
+    /// A function that equals this one.
     pub fn copy(&self, alloc: alloc::Global) -> Result<Func, OutOfMemory>
         ensures { IfOk result (λ copied. copied ≡ self.now) }
     {
@@ -195,6 +215,7 @@ impl Duplicate for Func {
 }
 
 impl Elem {
+    /// An element segment that equals this one.
     pub fn copy(&self, alloc: alloc::Global) -> Result<Elem, OutOfMemory>
         ensures { IfOk result (λ copied. copied ≡ self.now) }
     {
@@ -213,6 +234,7 @@ impl Duplicate for Elem {
 }
 
 impl Segment {
+    /// A data segment that equals this one.
     pub fn copy(&self, alloc: alloc::Global) -> Result<Segment, OutOfMemory>
         ensures { IfOk result (λ copied. copied ≡ self.now) }
     {
@@ -231,6 +253,7 @@ impl Duplicate for Segment {
 }
 
 impl Custom {
+    /// A custom section that equals this one.
     pub fn copy(&self, alloc: alloc::Global) -> Result<Custom, OutOfMemory>
         ensures { IfOk result (λ copied. copied ≡ self.now) }
     {
@@ -249,6 +272,7 @@ impl Duplicate for Custom {
 }
 
 impl Module {
+    /// A module that equals this one.
     pub fn copy(&self, alloc: alloc::Global) -> Result<Module, OutOfMemory>
         ensures { IfOk result (λ copied. copied ≡ self.now) }
     {
