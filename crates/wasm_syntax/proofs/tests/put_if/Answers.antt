@@ -1,4 +1,4 @@
-use Rattle.std.proofs.Common.{◌+◌, length, [], ◌∷◌, None, ap, ◌∙◌, arith}
+use Rattle.std.proofs.Common.{length, [], ◌∷◌, None, ap, ◌∙◌, arith}
 use Rattle.std.proofs.lemmas.List.{length-append}
 use Rattle.wasm_syntax.specs.declared.instr.Instr.TheVariants as instr
 use Rattle.wasm_syntax.specs.declared.flat.Flat.TheVariants.{End}
