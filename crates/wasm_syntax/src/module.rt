@@ -46,7 +46,7 @@ pub struct FuncType {
 }
 
 /// An import, by its two names (section 2.5.11).
-#[derive(Debug, Drop)]
+#[derive(Debug, PartialEq, Drop)]
 pub struct Import {
     pub module: Text,
     pub name: Text,
@@ -54,7 +54,7 @@ pub struct Import {
 }
 
 /// An export, by its name (section 2.5.10).
-#[derive(Debug, Drop)]
+#[derive(Debug, PartialEq, Drop)]
 pub struct Export {
     pub name: Text,
     pub kind: ExportKind,
@@ -85,7 +85,7 @@ pub struct Elem {
 }
 
 /// A data segment: the bytes that go into a memory from the offset on (section 2.5.8).
-#[derive(Debug, Drop)]
+#[derive(Debug, PartialEq, Drop)]
 pub struct Segment {
     pub memory: u32,
     pub offset: List<Instr>,
@@ -93,7 +93,7 @@ pub struct Segment {
 }
 
 /// A custom section. `after` is the id of the last other section before it that has an entry, or 0 (section 5.5.3).
-#[derive(Debug, Drop)]
+#[derive(Debug, PartialEq, Drop)]
 pub struct Custom {
     pub after: u8,
     pub name: Text,
