@@ -1,0 +1,13 @@
+//! The outline check: whether notes are an accepted proof outline of a module.
+#![tactic(auto)]
+
+mod answer;
+mod check;
+mod notes;
+mod state;
+
+pub use answer::{Answer, CheckFault, LimitWord, Reason};
+pub use check::check_module;
+pub use notes::{
+    Assertion, Formula, FuncNotes, Initial, Move, Note, Notes, Ref, Rule, Step, Use, With,
+};
