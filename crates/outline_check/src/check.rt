@@ -1,7 +1,11 @@
 ghost use Rattle.outline_check.specs.First.{IsFirst, HasPlaces};
+ghost use Rattle.outline_check.specs.Refusals.{IsAnswer};
+ghost use Rattle.outline_check.specs.Outlines.{outline};
 
 use crate::answer::{Answer, CheckFault};
 use crate::notes::Notes;
+use crate::state::{Fact, State};
+use crate::stop::{Refusal, Stop};
 use std::alloc::Global;
 use wasm_syntax::{Marks, Module};
 
@@ -14,6 +18,7 @@ pub fn check_module(
 ) -> Result<Answer, CheckFault>
     requires first { IsFirst «module».now }
     requires marked { HasPlaces «module».now marks.now }
+    ensures { IsAnswer result (outline «module».now marks.now notes.now) }
 {
     Err(CheckFault::OutOfMemory)
 }

@@ -5,6 +5,7 @@ mod answer;
 mod check;
 mod notes;
 mod state;
+mod stop;
 
 pub use answer::{Answer, CheckFault, LimitWord, Reason};
 pub use check::check_module;

@@ -1,5 +1,8 @@
-use crate::answer::{LimitWord, Reason};
-use wasm_values::List;
+ghost use Rattle.std.specs.Prelude.{◌≡◌, [], ◌∷◌, drop, OnOk, MatchOption};
+
+use std::alloc::Global;
+use std::marker::Model;
+use wasm_values::{List, OutOfMemory};
 
 /// A term of a state: a number or a variable.
 #[derive(Clone, Copy, Debug, PartialEq, Eq)]
@@ -15,27 +18,52 @@ pub enum Fact {
     AtMost(Term, Term),
 }
 
+/// Terms that contracts see as a list with the top first.
+#[derive(Drop)]
+pub struct Stack {
+    items: List<Term>,
+}
+
+impl Model for Stack {
+    ghost use Rattle.std.specs.Prelude.{List, reverse};
+    ghost use Rattle.std.specs.Coded.{coded_list};
+    ghost use Rattle.outline_check.specs.declared.state.Term.{Term};
+    ghost use Rattle.outline_check.specs.contracts.state.Term as of_term;
+
+    ghost Value = { List Term };
+
+    ghost coded = { coded_list of_term.the_row.coded };
+
+    ghost view = { λ s. reverse s.items };
+}
+
+impl Stack {
+    pub fn new(alloc: Global) -> Stack
+        ensures { result ≡ [] }
+    {
+        Stack {
+            items: List::new(alloc),
+        }
+    }
+
+    pub fn push(&mut self, term: Term) -> Result<(), OutOfMemory>
+        ensures { OnOk result (self.new ≡ term ∷ self.old) }
+    {
+        self.items.push(term)
+    }
+
+    pub fn pop(&mut self) -> Option<Term>
+        ensures { MatchOption result ((self.old ≡ []) × (self.new ≡ [])) (λ top. self.old ≡ top ∷ self.new) }
+    {
+        self.items.pop()
+    }
+}
+
 /// What is known before an instruction: facts, and a term for each global and operand.
-#[derive(Debug, Drop)]
+#[derive(Drop)]
 pub struct State {
     pub variables: u32,
     pub facts: List<Fact>,
     pub globals: List<Term>,
-    pub operands: List<Term>,
-}
-
-/// Why a part of the check stops.
-#[derive(Clone, Copy, Debug, PartialEq, Eq)]
-pub enum Stop {
-    Reason(Reason),
-    Limit(LimitWord),
-    OutOfMemory,
-}
-
-/// Why the check stops, and where.
-#[derive(Clone, Copy, Debug, PartialEq, Eq)]
-pub struct Refusal {
-    pub at: usize,
-    pub function: Option<u32>,
-    pub stop: Stop,
+    pub operands: Stack,
 }
