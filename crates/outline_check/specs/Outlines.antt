@@ -28,9 +28,9 @@ use Rattle.outline_check.specs.Refusals.{and_then, test_for, placed, answered}
 use Rattle.outline_check.specs.States.{fact_of, made, with_fact, entered, initial_state, after}
 use Rattle.outline_check.specs.Derivations.{is_at, first_bad}
 
--- Whether all formulas speak of globals that exist.
-abbrev pub in_scope : ℕ → List Formula → Bool
-in_scope globals formulas = list_all (λ formula. nat_lt formula.global globals) formulas
+-- Whether a formula speaks of one of so many globals.
+abbrev pub in_scope : ℕ → Formula → Bool
+in_scope globals formula = nat_lt formula.global globals
 
 -- The move `have`, once its formulas are in scope: the goal is one more fact where the steps derive it.
 abbrev pub derived : Fact → State → Option ℕ → Result State Stop
@@ -40,7 +40,9 @@ derived goal s (Some k) = Err (stop.Reason (reason.Derivation k))
 -- The move `have`: its formulas are in scope, the steps derive the first of them from the facts, and it is one more fact.
 abbrev pub had : Formula → List Step → State → Result State Stop
 had formula steps s =
-    and_then (test_for reason.Scope (in_scope (length s.globals) (formula ∷ map (λ step. step.formula) steps)))
+    and_then
+    (test_for reason.Scope
+    (in_scope (length s.globals) formula && list_all (λ step. in_scope (length s.globals) step.formula) steps))
     (λ _. derived (fact_of s.globals formula) s (first_bad s.globals s.facts (fact_of s.globals formula) steps))
 
 -- Moves are made in their order.
@@ -115,7 +117,7 @@ module _ (globals : ℕ) (notes : Notes) (code : List (List ℕ)) where
   functions_from f [] = Ok tt
   functions_from f (func ∷ funcs) =
       and_then
-        (function_outline notes.invariant.formulas f (notes_of notes.funcs f) (slice_index_or code f []) globals func.body)
+      (function_outline notes.invariant.formulas f (notes_of notes.funcs f) (slice_index_or code f []) globals func.body)
       (λ _. functions_from (f + 1) funcs)
 
 -- The numbers rise, from `low` on, and stay below `high`.
@@ -143,7 +145,7 @@ initial_outline m notes =
 abbrev pub module_outline : Module → Marks → Notes → Result (Unit {0}) Refusal
 module_outline m marks notes =
     and_then (placed 0 None (test_for reason.Notes (notes_fit m.funcs notes.funcs)))
-    (λ _. and_then (placed 0 None (test_for reason.Scope (in_scope (length m.globals) notes.invariant.formulas)))
+    (λ _. and_then (placed 0 None (test_for reason.Scope (list_all (in_scope (length m.globals)) notes.invariant.formulas)))
     (λ _. and_then (functions_from (length m.globals) notes marks.code 0 m.funcs)
     (λ _. placed marks.len None (initial_outline m notes))))
 

@@ -45,7 +45,8 @@ with_global s = record {
   variables = s.variables + 1;
   facts = s.facts ++ AtMost (Number (pos 0)) (Variable s.variables) ∷ AtMost (Variable s.variables) (Number (pos 4294967295)) ∷ [];
   globals = s.globals ++ Variable s.variables ∷ [];
-  operands = s.operands }
+  operands = s.operands;
+}
 
 -- Nothing is known, and there are no globals yet.
 abbrev pub nothing : State

@@ -3,7 +3,10 @@
 
 mod answer;
 mod check;
+mod derivation;
+mod effect;
 mod notes;
+mod place;
 mod state;
 mod stop;
 

@@ -1,4 +1,4 @@
-ghost use Rattle.std.specs.Prelude.{◌≡◌, [], ◌∷◌, drop, OnOk, MatchOption};
+ghost use Rattle.std.specs.Prelude.{◌≡◌, [], ◌∷◌, length, OnOk, MatchOption};
 
 use std::alloc::Global;
 use std::marker::Model;
@@ -44,6 +44,12 @@ impl Stack {
         Stack {
             items: List::new(alloc),
         }
+    }
+
+    pub fn len(&self) -> usize
+        ensures { result ≡ length self.now }
+    {
+        self.items.len()
     }
 
     pub fn push(&mut self, term: Term) -> Result<(), OutOfMemory>

@@ -1,4 +1,8 @@
+ghost use Rattle.std.specs.Prelude.{◌≡◌};
+ghost use Rattle.outline_check.specs.declared.stop.Stop.TheVariants.{OutOfMemory};
+
 use crate::answer::{LimitWord, Reason};
+use wasm_values::OutOfMemory;
 
 /// Why a part of the check stops.
 #[derive(Clone, Copy, Debug, PartialEq, Eq)]
@@ -21,4 +25,12 @@ pub enum Refusal {
         word: LimitWord,
     },
     OutOfMemory,
+}
+
+impl From<OutOfMemory> for Stop {
+    ghost from_gives = { λ _ stop. stop ≡ OutOfMemory };
+
+    fn from(_error: OutOfMemory) -> Stop {
+        Stop::OutOfMemory
+    }
 }
