@@ -5,6 +5,7 @@ mod answer;
 mod check;
 mod derivation;
 mod effect;
+mod moves;
 mod notes;
 mod place;
 mod state;
