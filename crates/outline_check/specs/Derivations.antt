@@ -1,8 +1,7 @@
 -- Derivations by the rules `hyp` and `eval`.
-use Rattle.std.specs.Prelude.{◌≡◌, ℕ, ◌+◌, ◌-◌, ◌^◌, ◌<◌, Bool, true, false, if◌then◌else◌, ◌&&◌, nat_lt, nat_eq, ℤ, nat_abs, int_le, List, [], ◌∷◌, ◌++◌, length, slice_get, Option, Some, None}
+use Rattle.std.specs.Prelude.{ℕ, ◌-◌, ◌^◌, Bool, false, if◌then◌else◌, ◌&&◌, nat_lt, nat_eq, ℤ, nat_abs, int_le, List, [], ◌∷◌, ◌++◌, length, slice_get, Option, Some, None}
 use Rattle.std.specs.Option.{option_map_or}
 use Rattle.std.specs.Ordering.{int_eq}
-use Rattle.outline_check.specs.declared.notes.Formula.{Formula}
 use Rattle.outline_check.specs.declared.notes.Rule.{Rule}
 use Rattle.outline_check.specs.declared.notes.Rule.TheVariants as rule
 use Rattle.outline_check.specs.declared.notes.Ref.{Ref}

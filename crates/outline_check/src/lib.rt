@@ -10,6 +10,7 @@ mod notes;
 mod place;
 mod state;
 mod stop;
+mod walk;
 
 pub use answer::{Answer, CheckFault, LimitWord, Reason};
 pub use check::check_module;
