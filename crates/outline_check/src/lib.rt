@@ -10,6 +10,8 @@ mod notes;
 mod place;
 mod state;
 mod stop;
+#[cfg(test)]
+mod tests;
 mod walk;
 
 pub use answer::{Answer, CheckFault, LimitWord, Reason};
