@@ -1,3 +1,4 @@
 pub mod StateLemmas
 pub mod WalkLemmas
 pub mod ModuleLemmas
+pub mod DerivationLaws

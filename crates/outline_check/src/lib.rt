@@ -5,6 +5,7 @@ mod answer;
 mod check;
 mod derivation;
 mod effect;
+mod laws;
 mod moves;
 mod notes;
 mod place;
@@ -16,6 +17,7 @@ mod walk;
 
 pub use answer::{Answer, CheckFault, LimitWord, Reason};
 pub use check::check_module;
+pub use laws::{derivations_are_exact, derivations_are_sound};
 pub use notes::{
     Assertion, Formula, FuncNotes, Initial, Move, Note, Notes, Ref, Rule, Step, Use, With,
 };
