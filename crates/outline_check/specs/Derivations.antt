@@ -71,8 +71,8 @@ conclusions globals steps = map (λ step. fact_of globals step.formula) steps
 abbrev pub is_instance_at : List Term → List Fact → List Step → ℕ → Bool
 is_instance_at globals hyps steps k =
     option_map_or
-      (λ step. is_instance hyps (take k (conclusions globals steps)) step.rule step.refs (fact_of globals step.formula))
-      (slice_get steps k) false
+    (λ step. is_instance hyps (take k (conclusions globals steps)) step.rule step.refs (fact_of globals step.formula))
+    (slice_get steps k) false
 
 -- The steps derive the goal from the hypotheses: each step is an instance over the hypotheses and the earlier
 -- conclusions, and the last conclusion is the goal.
@@ -85,8 +85,8 @@ pub record Derives (globals : List Term) (hyps : List Fact) (goal : Fact) (steps
 pub record IsFirstBad (globals : List Term) (hyps : List Fact) (goal : Fact) (steps : List Step) (k : ℕ) : Type 0 where
   pub before : (j : ℕ) → j < k → is_instance_at globals hyps steps j ≡ true
   pub here :
-    ((k < length steps) × (is_instance_at globals hyps steps k ≡ false))
-    ⊎ ((k ≡ length steps) × (ends_in (conclusions globals steps) goal ≡ false))
+      ((k < length steps) × (is_instance_at globals hyps steps k ≡ false))
+      ⊎ ((k ≡ length steps) × (ends_in (conclusions globals steps) goal ≡ false))
 
 -- The first bad step is none exactly where the steps derive the goal, and else it is the first bad one.
 abbrev pub DerivationsAreExact : Type 0
