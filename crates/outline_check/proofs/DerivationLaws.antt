@@ -142,7 +142,7 @@ module _ (numbers : ℕ → ℤ) where
   same-truth (Equal a b) (AtMost c d) e = cc
   same-truth (AtMost a b) (Equal c d) e = cc
 
-  at-true : (facts : List Fact) (k : ℕ) (fact : Fact) → list_all (is_true numbers) facts ≡ true → is_at facts k fact ≡ true →
+  pub at-true : (facts : List Fact) (k : ℕ) (fact : Fact) → list_all (is_true numbers) facts ≡ true → is_at facts k fact ≡ true →
       is_true numbers fact ≡ true
   unfolding is_at
   at-true [] k fact h e = cc
@@ -173,7 +173,7 @@ module _ (numbers : ℕ → ℤ) where
   instance-true hyps earlier rule.Hyp (ref.Earlier k ∷ r ∷ refs) fact h k_true e = cc
   instance-true hyps earlier rule.Eval (r ∷ refs) fact h k_true e = cc
 
-  all-append : (xs : List Fact) (x : Fact) → list_all (is_true numbers) xs ≡ true → is_true numbers x ≡ true →
+  pub all-append : (xs : List Fact) (x : Fact) → list_all (is_true numbers) xs ≡ true → is_true numbers x ≡ true →
       list_all (is_true numbers) (xs ++ x ∷ []) ≡ true
   all-append [] x h e = rw e refl
   all-append (y ∷ xs) x h e =
