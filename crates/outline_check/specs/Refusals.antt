@@ -52,6 +52,12 @@ IsSaid (Ok a) said = said ≡ Ok a
 IsSaid (Err (stop.Refused reason)) said = said ≡ Err reason
 IsSaid (Err stop.OutOfMemory) said = Unit {0}
 
+-- A result isn't want of memory.
+abbrev pub HasMemory : {A W : Type 0} → Result A (Stop W) → Type 0
+HasMemory (Ok a) = Unit {0}
+HasMemory (Err (stop.Refused reason)) = Unit {0}
+HasMemory (Err stop.OutOfMemory) = ⊥
+
 -- An answer is the outline that is said, or want of memory.
 abbrev pub IsAnswer : Result Answer CheckFault → Outline → Type 0
 IsAnswer (Ok answer.Verified) said = said ≡ Verified

@@ -15,7 +15,7 @@ use Rattle.outline_check.specs.First.{IsFirst}
 use Rattle.outline_check.specs.Refusals.{Verified}
 use Rattle.outline_check.specs.Outlines.{outline}
 
--- The globals after instructions of First, from values of globals and operands with the top first (Core 4.4.2, 4.4.5).
+-- The globals after instructions of First, from values of globals and operands with the top first (Core 4.4.1 to 4.4.3).
 abbrev pub ran : List ℕ → List ℕ → List Instr → List ℕ
 ran globals operands [] = globals
 ran globals operands (Plain Drop ∷ rest) = ran globals (drop 1 operands) rest

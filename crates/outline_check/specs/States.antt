@@ -81,7 +81,7 @@ abbrev pub with_set : ℕ → List Term → State → State
 with_set k [] s = s
 with_set k (top ∷ rest) s = record s { globals = slice_set s.globals k top; operands = rest }
 
--- What an instruction does (Core 4.4): `nop` nothing, `drop` takes the top operand away, a constant is its unsigned
+-- What an instruction does (Core 4.4.1 to 4.4.3): `nop` nothing, `drop` takes the top operand away, a constant is its unsigned
 -- number, `global.get` puts the global's term on top and `global.set` takes the top operand for it. Other instructions
 -- stand in no module of First.
 abbrev pub after : Instr → State → Result State Why

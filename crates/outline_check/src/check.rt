@@ -3,7 +3,7 @@ ghost use Rattle.std.specs.List.{list_all, AllZip};
 ghost use Rattle.std.specs.Option.{option_copied};
 ghost use Rattle.wasm_syntax.specs.FlatForm.{is_simple};
 ghost use Rattle.outline_check.specs.First.{IsFirst, HasPlaces, HasPlaceEach};
-ghost use Rattle.outline_check.specs.Refusals.{test_for, IsSaid, IsAnswer};
+ghost use Rattle.outline_check.specs.Refusals.{HasMemory, test_for, IsSaid, IsAnswer};
 ghost use Rattle.outline_check.specs.Outlines.{notes_of, body_fits, notes_fit, rise_within, instructions, functions_from, initial_outline, module_outline, outline};
 ghost use Rattle.outline_check.specs.Cursors.{IsCursor, AreSimple};
 
@@ -77,7 +77,8 @@ fn notes_fit(funcs: &[Func], notes: &[FuncNotes]) -> bool
 }
 
 fn test_for(reason: Reason, met: bool) -> Result<(), Stop<Why>>
-    ensures { IsSaid result (test_for reason met) }
+    ensures said { IsSaid result (test_for reason met) }
+    ensures memory { HasMemory result }
 {
     if met {
         Ok(())

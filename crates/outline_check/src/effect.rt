@@ -1,5 +1,5 @@
 ghost use Rattle.std.specs.Prelude.{◌≡◌, ◌<◌, ◌∷◌};
-ghost use Rattle.outline_check.specs.Refusals.{IsSaid};
+ghost use Rattle.outline_check.specs.Refusals.{HasMemory, IsSaid};
 ghost use Rattle.outline_check.specs.States.{made, with_fact, with_global, with_globals, assumed, entered, initial_term, initial_state, with_set, after, nothing};
 
 use crate::answer::LimitWord;
@@ -20,7 +20,8 @@ const MAX_NODES: usize = 1_000_000;
 /// The state, if it is within the limits.
 #[tactic(auto, unfolding(crate::specs::States::made))]
 fn made(state: State) -> Result<State, Stop<Why>>
-    ensures { IsSaid result (made state) }
+    ensures said { IsSaid result (made state) }
+    ensures memory { HasMemory result }
 {
     let facts = state.facts.len();
     let globals = state.globals.len();

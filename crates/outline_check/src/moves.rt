@@ -1,7 +1,7 @@
 ghost use Rattle.std.specs.Prelude.{◌≡◌, length};
 ghost use Rattle.std.specs.Option.{option_copied};
 ghost use Rattle.std.specs.List.{list_all};
-ghost use Rattle.outline_check.specs.Refusals.{IsSaid};
+ghost use Rattle.outline_check.specs.Refusals.{HasMemory, IsSaid};
 ghost use Rattle.outline_check.specs.Outlines.{in_scope, had, moved, are_facts, entailed, facts_of, stepped, ended};
 
 use crate::answer::Reason;
@@ -73,7 +73,8 @@ fn are_facts(state: &State, numbers: &[u32], formulas: &[Formula]) -> bool
 
 /// Whether the state entails the formulas by the facts of these numbers.
 pub fn entailed(formulas: &[Formula], numbers: &[u32], state: &State) -> Result<(), Stop<Why>>
-    ensures { IsSaid result (entailed formulas.now numbers.now state.now) }
+    ensures said { IsSaid result (entailed formulas.now numbers.now state.now) }
+    ensures memory { HasMemory result }
 {
     if numbers.len() != formulas.len() {
         Err(Stop::Refused(Why::Reason(Reason::Use)))

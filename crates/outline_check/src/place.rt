@@ -1,6 +1,6 @@
-ghost use Rattle.std.specs.Prelude.{◌≡◌, Result};
+ghost use Rattle.std.specs.Prelude.{◌≡◌, ◌≢◌, Result};
 ghost use Rattle.outline_check.specs.declared.stop.Refusal.{Refusal};
-ghost use Rattle.outline_check.specs.Refusals.{failed, stops_at, IsSaid, IsAnswer, answered};
+ghost use Rattle.outline_check.specs.Refusals.{HasMemory, failed, stops_at, IsSaid, IsAnswer, answered};
 
 use crate::answer::{Answer, CheckFault};
 use crate::stop::{Refusal, Stop, Why};
@@ -21,7 +21,8 @@ pub fn placed<T>(
 }
 
 fn failed(refusal: Refusal) -> Result<Answer, CheckFault>
-    ensures { IsAnswer result (failed refusal) }
+    ensures said { IsAnswer result (failed refusal) }
+    ensures memory { result ≢ Err CheckFault.OutOfMemory }
 {
     let Refusal { at, function, why } = refusal;
     match why {
@@ -36,7 +37,8 @@ fn failed(refusal: Refusal) -> Result<Answer, CheckFault>
 
 /// What the check answers for the tests of a whole module.
 pub fn answered(outcome: Result<(), Stop<Refusal>>) -> Result<Answer, CheckFault>
-    ensures { (said : Result (Unit {0}) Refusal) → IsSaid outcome said → IsAnswer result (answered said) }
+    ensures said { (said : Result (Unit {0}) Refusal) → IsSaid outcome said → IsAnswer result (answered said) }
+    ensures memory { HasMemory outcome → result ≢ Err CheckFault.OutOfMemory }
 {
     match outcome {
         Ok(()) => Ok(Answer::Verified),
