@@ -1,0 +1,5 @@
+pub mod StateLemmas
+pub mod WalkLemmas
+pub mod ModuleLemmas
+pub mod DerivationLaws
+pub mod RunLemmas
