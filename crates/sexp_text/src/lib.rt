@@ -1,0 +1,13 @@
+//! Lists as text: one list of numbers, words, strings and lists, read with places and printed.
+#![tactic(auto)]
+
+mod bytes;
+mod fault;
+mod read;
+mod reader;
+mod run;
+mod sexp;
+mod step;
+
+pub use fault::{LimitWord, TextFault, TextWord};
+pub use sexp::{Node, Sexp};
