@@ -3,6 +3,7 @@ use mathlib.Core.Former.{Count}
 use Rattle.std.proofs.Common.{◌≡◌, ℕ, suc, ◌+◌, ◌<◌, ◌≤◌, true, false, List, [], ◌∷◌, ◌++◌, length, Ok, Err, refl, sym, ap, ◌∙◌, append_assoc, arith}
 use Rattle.std.proofs.lemmas.Bool.{lt-ltb, le-ltb}
 use Rattle.std.proofs.lemmas.Grind.{flat_map-append}
+use Rattle.std.proofs.lemmas.List.{append-nil}
 use Rattle.sexp_text.specs.declared.fault.TextFault.TheVariants.{Refused, Limit}
 use Rattle.sexp_text.specs.declared.fault.TextWord.TheVariants as word
 use Rattle.sexp_text.specs.declared.fault.LimitWord.TheVariants.{Nesting}
@@ -30,11 +31,7 @@ items_of-List at parts =
     ap (λ xs. Open at ∷ (xs ++ Close ∷ [])) (row_items-listed (hidden-the_row-Sexp-0 parts) ∙ ap items_of_all (items_hidden-the_row-Sexp-0 parts))
 
 pub items_of_all-push : (xs : List Sexp) (x : Sexp) → items_of_all (xs ++ x ∷ []) ≡ items_of_all xs ++ items_of x
-items_of_all-push xs x = flat_map-append items_of xs (x ∷ []) ∙ ap (λ ys. items_of_all xs ++ ys) (append_nil (items_of x))
-  where
-    append_nil : (ys : List Item) → ys ++ [] ≡ ys
-    append_nil [] = refl
-    append_nil (y ∷ ys) = ap (λ zs. y ∷ zs) (append_nil ys)
+items_of_all-push xs x = flat_map-append items_of xs (x ∷ []) ∙ ap (λ ys. items_of_all xs ++ ys) (append-nil (items_of x))
 
 pub length-push : (xs : List OpenList) (x : OpenList) → length (xs ++ x ∷ []) ≡ suc (length xs)
 length-push [] x = refl
@@ -46,11 +43,7 @@ open_items-push : (l : OpenList) (x : Sexp) →
 open_items-push l x = ap (λ xs. Open l.at ∷ xs) (items_of_all-push l.parts x)
 
 all_open_items-push : (ls : List OpenList) (l : OpenList) → all_open_items (ls ++ l ∷ []) ≡ all_open_items ls ++ open_items l
-all_open_items-push ls l = flat_map-append open_items ls (l ∷ []) ∙ ap (λ ys. all_open_items ls ++ ys) (append_nil (open_items l))
-  where
-    append_nil : (ys : List Item) → ys ++ [] ≡ ys
-    append_nil [] = refl
-    append_nil (y ∷ ys) = ap (λ zs. y ∷ zs) (append_nil ys)
+all_open_items-push ls l = flat_map-append open_items ls (l ∷ []) ∙ ap (λ ys. all_open_items ls ++ ys) (append-nil (open_items l))
 
 pub open-before : (at : ℕ) (p : Progress) (outer : List OpenList) (parts : List Sexp) →
     p ≡ progress.Before → outer ≡ [] → parts ≡ [] →

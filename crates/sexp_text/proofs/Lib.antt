@@ -1,2 +1,6 @@
 mod ByteLemmas
 mod FrontLemmas
+mod PutLemmas
+mod ReadLemmas
+mod SameLemmas
+mod Utf8Lemmas

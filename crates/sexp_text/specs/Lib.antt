@@ -1,4 +1,5 @@
 pub mod Bytes
 pub mod Items
 pub mod Reading
+pub mod Spelling
 pub mod Fronts
