@@ -29,7 +29,7 @@ prefix_len-le p [] = omega arith
 prefix_len-le p (b ∷ bs) = elim (p b) as (λ v. cond v (1 + prefix_len p bs) 0 ≤ length (b ∷ bs)) [ true ↦ omega (arith, prefix_len-le p bs) | false ↦ omega arith ]
 
 -- where each byte passes, the first does and the others do
-prefix_len-all : (p : ℕ → Bool) (b : ℕ) (bs : List ℕ) → prefix_len p (b ∷ bs) ≡ length (b ∷ bs) →
+pub prefix_len-all : (p : ℕ → Bool) (b : ℕ) (bs : List ℕ) → prefix_len p (b ∷ bs) ≡ length (b ∷ bs) →
     (p b ≡ true) × (prefix_len p bs ≡ length bs)
 prefix_len-all p b bs h = by_cases (p b) refl h
   where

@@ -1,5 +1,7 @@
 mod ByteLemmas
+mod CompleteLemmas
 mod FrontLemmas
+mod NumberLemmas
 mod PutLemmas
 mod ReadLemmas
 mod SameLemmas
