@@ -5,4 +5,5 @@ mod NumberLemmas
 mod PutLemmas
 mod ReadLemmas
 mod SameLemmas
+mod SoundLemmas
 mod Utf8Lemmas
