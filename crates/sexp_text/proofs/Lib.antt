@@ -1,9 +1,12 @@
+mod AgainLemmas
 mod ByteLemmas
 mod CompleteLemmas
 mod FrontLemmas
 mod NumberLemmas
+mod PrintLemmas
 mod PutLemmas
 mod ReadLemmas
 mod SameLemmas
 mod SoundLemmas
+mod TextLaws
 mod Utf8Lemmas

@@ -271,12 +271,12 @@ writes_word [] h = absurd h
 writes_word (b ∷ bs) h =
     ⊎_elim (λ n. reads_name b bs n.0 n.1)
     (λ other. ⊎_elim
-      (λ s. subst (λ cs. ReadsWord (b ∷ cs)) (sym s.1) (reads_sign b s.0))
-      (λ l. subst (λ c. ReadsWord (c ∷ bs)) (sym l.0) (⊎_elim
-        (λ e. subst (λ cs. ReadsWord (60 ∷ cs)) (sym e) reads_less)
-        (λ e. subst (λ cs. ReadsWord (60 ∷ cs)) (sym e) reads_less_equal)
-        l.1))
-      other)
+    (λ s. subst (λ cs. ReadsWord (b ∷ cs)) (sym s.1) (reads_sign b s.0))
+    (λ l. subst (λ c. ReadsWord (c ∷ bs)) (sym l.0) (⊎_elim
+    (λ e. subst (λ cs. ReadsWord (60 ∷ cs)) (sym e) reads_less)
+    (λ e. subst (λ cs. ReadsWord (60 ∷ cs)) (sym e) reads_less_equal)
+    l.1))
+    other)
     h
 
 names_all : (bs : List ℕ) → prefix_len is_name_byte bs ≡ length bs → AllByRecursion (λ c. is_name_byte c ≡ true) bs

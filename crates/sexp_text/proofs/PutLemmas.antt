@@ -102,13 +102,13 @@ mutual
       let room = opened_room at k items first.0 first.1 in
       let inner : suc k < 500 = omega (arith, room.0) in
       let e1 : puts ((row_items parts ++ Close ∷ []) ++ rest) (Inside (items ++ Open at ∷ []) (suc k)) ≡ Ok g =
-        subst (λ f. puts ((row_items parts ++ Close ∷ []) ++ rest) f ≡ Ok g) room.1 first.2 in
+      subst (λ f. puts ((row_items parts ++ Close ∷ []) ++ rest) f ≡ Ok g) room.1 first.2 in
       let e2 : puts (row_items parts ++ Close ∷ rest) (Inside (items ++ Open at ∷ []) (suc k)) ≡ Ok g =
-        subst (λ xs. puts xs (Inside (items ++ Open at ∷ []) (suc k)) ≡ Ok g) (append_assoc (row_items parts) (Close ∷ []) rest) e1 in
+      subst (λ xs. puts xs (Inside (items ++ Open at ∷ []) (suc k)) ≡ Ok g) (append_assoc (row_items parts) (Close ∷ []) rest) e1 in
       let row = row_fits parts (Close ∷ rest) (items ++ Open at ∷ []) (suc k) g inner e2 in
       let e3 : (closed 0 (Inside ((items ++ Open at ∷ []) ++ row_items parts) (suc k)) >>= puts rest) ≡ Ok g = row.1 in
       let e4 : puts rest (Inside (((items ++ Open at ∷ []) ++ row_items parts) ++ Close ∷ []) k) ≡ Ok g =
-        subst (λ r. (r >>= puts rest) ≡ Ok g) (close_one k ((items ++ Open at ∷ []) ++ row_items parts)) e3 in
+      subst (λ r. (r >>= puts rest) ≡ Ok g) (close_one k ((items ++ Open at ∷ []) ++ row_items parts)) e3 in
       (omega (arith, row.0), subst (λ xs. puts rest (Inside xs k) ≡ Ok g) (regroup items (row_items parts) at) e4)
 
   pub row_fits : {n : _} (row : Row_of-Sexp n) (rest items : List Item) (k : ℕ) (g : Front) → k < 500 →
@@ -118,7 +118,7 @@ mutual
       (omega arith, subst (λ xs. puts rest (Inside xs k) ≡ Ok g) (sym (append-nil items)) e)
   row_fits (more_of-Sexp at node others) rest items k g h e =
       let e1 : puts (node_items at node ++ (row_items others ++ rest)) (Inside items k) ≡ Ok g =
-        subst (λ xs. puts xs (Inside items k) ≡ Ok g) (append_assoc (node_items at node) (row_items others) rest) e in
+      subst (λ xs. puts xs (Inside items k) ≡ Ok g) (append_assoc (node_items at node) (row_items others) rest) e in
       let first = node_fits at node (row_items others ++ rest) items k g h e1 in
       let more = row_fits others rest (items ++ node_items at node) k g h first.1 in
       (omega (arith, first.0, more.0), subst (λ xs. puts rest (Inside xs k) ≡ Ok g) (append_assoc items (node_items at node) (row_items others)) more.1)
@@ -159,6 +159,6 @@ whole_fits s g e = by_node s.at s.node e
     by_node at (List' shape parts) e =
         let e1 : (opened at Before >>= puts (row_items parts ++ Close ∷ [])) ≡ Ok g = e in
         let e2 : puts (row_items parts ++ Close ∷ []) (Inside (Open at ∷ []) 0) ≡ Ok g =
-          subst (λ r. (r >>= puts (row_items parts ++ Close ∷ [])) ≡ Ok g) (opened_first at) e1 in
+        subst (λ r. (r >>= puts (row_items parts ++ Close ∷ [])) ≡ Ok g) (opened_first at) e1 in
         let row = row_fits parts (Close ∷ []) (Open at ∷ []) 0 g (omega arith) e2 in
         (tt, omega (arith, row.0))

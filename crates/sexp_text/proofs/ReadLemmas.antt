@@ -95,10 +95,10 @@ last_gap_read text all p h =
     ⊎_elim
     (λ g. ap (λ bs. read_from p bs (After all) Between) (sym (append-nil text)) ∙ gap_read g [] p (After all))
     (λ g. let gap = g.0 in let line = g.1 in
-      ap (λ bs. read_from p bs (After all) Between) g.2 ∙ gap_read g.3 (59 ∷ line) p (After all) ∙
-      ap (go_on ((p + length gap) + 1) line) (step_semicolon (p + length gap) (After all)) ∙
-      ap (λ bs. read_from ((p + length gap) + 1) bs (After all) Comment) (sym (append-nil line)) ∙
-      comment_read line [] ((p + length gap) + 1) (After all) g.4)
+    ap (λ bs. read_from p bs (After all) Between) g.2 ∙ gap_read g.3 (59 ∷ line) p (After all) ∙
+    ap (go_on ((p + length gap) + 1) line) (step_semicolon (p + length gap) (After all)) ∙
+    ap (λ bs. read_from ((p + length gap) + 1) bs (After all) Comment) (sym (append-nil line)) ∙
+    comment_read line [] ((p + length gap) + 1) (After all) g.4)
     h
 
 -- a run

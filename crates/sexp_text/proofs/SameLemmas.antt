@@ -44,7 +44,7 @@ mutual
       let here : at ≡ from = cc in
       let after : (row_items row ++ Close ∷ []) ++ xs ≡ (row_items row' ++ Close ∷ []) ++ ys = cc in
       let inside : row_items row ++ Close ∷ xs ≡ row_items row' ++ Close ∷ ys =
-        sym (append_assoc (row_items row) (Close ∷ []) xs) ∙ after ∙ append_assoc (row_items row') (Close ∷ []) ys in
+      sym (append_assoc (row_items row) (Close ∷ []) xs) ∙ after ∙ append_assoc (row_items row') (Close ∷ []) ys in
       let parts = row_same row row' xs ys inside in
       (here, sym (list_of_row shape row) ∙ ap node.List parts.0 ∙ list_of_row shape' row', parts.1)
 
@@ -55,7 +55,7 @@ mutual
   row_same (more_of-Sexp at node rest) end_of-Sexp xs ys e = absurd (first_is_no_end at node (row_items rest ++ Close ∷ xs) ys (sym e ∙ append_assoc (node_items at node) (row_items rest) (Close ∷ xs)))
   row_same (more_of-Sexp at node rest) (more_of-Sexp from other more) xs ys e =
       let whole : node_items at node ++ (row_items rest ++ Close ∷ xs) ≡ node_items from other ++ (row_items more ++ Close ∷ ys) =
-        sym (append_assoc (node_items at node) (row_items rest) (Close ∷ xs)) ∙ e ∙ append_assoc (node_items from other) (row_items more) (Close ∷ ys) in
+      sym (append_assoc (node_items at node) (row_items rest) (Close ∷ xs)) ∙ e ∙ append_assoc (node_items from other) (row_items more) (Close ∷ ys) in
       let first = node_same at from node other (row_items rest ++ Close ∷ xs) (row_items more ++ Close ∷ ys) whole in
       let others = row_same rest more xs ys first.2 in
       (cons_same at from node other _ _ first.0 first.1 others.0, others.1)

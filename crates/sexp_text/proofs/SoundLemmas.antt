@@ -68,7 +68,7 @@ Back n b bs front mode all next = HoldsIn next.1 next.0 × (Goes n bs next.0 nex
 
 -- gaps that grow at their front
 
-white_more : (n b : ℕ) (bs : List ℕ) (xs : List Item) → is_white b ≡ true → Spelled n bs xs → Spelled n (b ∷ bs) xs
+pub white_more : (n b : ℕ) (bs : List ℕ) (xs : List Item) → is_white b ≡ true → Spelled n bs xs → Spelled n (b ∷ bs) xs
 white_more n b bs [] h s =
     ⊎_elim (λ g. inl (white h g)) (λ g. inr (b ∷ g.0, g.1, ap (λ cs. b ∷ cs) g.2, white h g.3, g.4)) s
 white_more n b bs (x ∷ xs) h s = (b ∷ s.0, s.1, s.2, ap (λ cs. b ∷ cs) s.3, white h s.4, s.5, s.6, s.7, s.8)
@@ -77,14 +77,25 @@ comment_more : (n : ℕ) (line rest bs : List ℕ) (xs : List Item) → bs ≡ l
 comment_more n line rest bs [] e h s =
     ⊎_elim
     (λ g. inl (subst (λ cs. Gap (59 ∷ cs)) (sym e) (comment line h g)))
-    (λ g. inr (59 ∷ (line ++ 10 ∷ g.0), g.1,
+    (λ g. inr (
+      59 ∷ (line ++ 10 ∷ g.0),
+      g.1,
       ap (λ cs. 59 ∷ cs) (e ∙ ap (λ cs. line ++ 10 ∷ cs) g.2 ∙ sym (append_assoc line (10 ∷ g.0) (59 ∷ g.1))),
-      comment line h g.3, g.4))
+      comment line h g.3,
+      g.4,
+    ))
     s
-comment_more n line rest bs (x ∷ xs) e h s =
-    (59 ∷ (line ++ 10 ∷ s.0), s.1, s.2,
-      ap (λ cs. 59 ∷ cs) (e ∙ ap (λ cs. line ++ 10 ∷ cs) s.3 ∙ sym (append_assoc line (10 ∷ s.0) (s.1 ++ s.2))),
-      comment line h s.4, s.5, s.6, s.7, s.8)
+comment_more n line rest bs (x ∷ xs) e h s = (
+  59 ∷ (line ++ 10 ∷ s.0),
+  s.1,
+  s.2,
+  ap (λ cs. 59 ∷ cs) (e ∙ ap (λ cs. line ++ 10 ∷ cs) s.3 ∙ sym (append_assoc line (10 ∷ s.0) (s.1 ++ s.2))),
+  comment line h s.4,
+  s.5,
+  s.6,
+  s.7,
+  s.8,
+)
 
 last_comment : (n : ℕ) (bs : List ℕ) (xs : List Item) → IsLine bs → xs ≡ [] → Spelled n (59 ∷ bs) xs
 last_comment n bs xs h e = subst (Spelled n (59 ∷ bs)) (sym e) (inr ([], bs, refl, nothing, h))
@@ -136,9 +147,12 @@ run_back : (n p b : ℕ) (bs : List ℕ) (front : Front) (all : List Item) → p
 run_back n p b bs front all l g =
     let s = g.2 in
     let whole : b ∷ bs ≡ (b ∷ s.0) ++ s.1 = ap (λ cs. b ∷ cs) s.5 in
-    let here : p + length ((b ∷ s.0) ++ s.1) ≡ n = subst (λ cs. p + length cs ≡ n) whole l in
-    (g.0, g.1, subst (Spelled n (b ∷ bs)) (sym s.4)
-      ([], b ∷ s.0, s.1, whole, nothing, s.7, stands n p s.2 ((b ∷ s.0) ++ s.1) s.6 here, s.8, s.9))
+    let here : p + length ((b ∷ s.0) ++ s.1) ≡ n = subst (λ cs. p + length cs ≡ n) whole l in (
+      g.0,
+      g.1,
+      subst (Spelled n (b ∷ bs)) (sym s.4)
+          ([], b ∷ s.0, s.1, whole, nothing, s.7, stands n p s.2 ((b ∷ s.0) ++ s.1) s.6 here, s.8, s.9),
+    )
 
 -- all bytes between parts
 
@@ -250,9 +264,11 @@ run_item from run xs some e =
 
 end_run_back : (n b from k : ℕ) (bs run : List ℕ) (items : List Item) (x : Item) (all : List Item) → is_run b ≡ false → IsRunItem from run x →
     Goes n (b ∷ bs) (Inside (items ++ x ∷ []) k) Between all → Goes n (b ∷ bs) (Inside items k) (Run from run) all
-end_run_back n b from k bs run items x all h i g =
-    (x ∷ g.0, ap (λ r. r >>= puts g.0) (i.3 items k) ∙ g.1,
-      ([], b ∷ bs, x, g.0, refl, refl, i.0, subst (Marks x) (sym (append-nil run)) i.1, i.2 bs b h, g.2))
+end_run_back n b from k bs run items x all h i g = (
+  x ∷ g.0,
+  ap (λ r. r >>= puts g.0) (i.3 items k) ∙ g.1,
+  ([], b ∷ bs, x, g.0, refl, refl, i.0, subst (Marks x) (sym (append-nil run)) i.1, i.2 bs b h, g.2),
+)
 
 in_run_back : (n p b from : ℕ) (bs run : List ℕ) (front : Front) (all : List Item) (next : Front × Mode) → p + length (b ∷ bs) ≡ n →
     HoldsIn (Run from run) front → step p b front (Run from run) ≡ Ok next → Back n b bs front (Run from run) all next
@@ -276,7 +292,7 @@ in_run_back n p b from bs run front all next l h e = by_run (is_run b) refl e
         let item = run_item from run two.0 h.1 two.1 in
         let x = item.0 in
         let there : one.0 ≡ Inside (items ++ x ∷ []) k =
-          ok_same (sym two.2) ∙ ap (λ f. added two.0 f) h.0.2 ∙ ap (λ xs. Inside (items ++ xs) k) item.1 in
+        ok_same (sym two.2) ∙ ap (λ f. added two.0 f) h.0.2 ∙ ap (λ xs. Inside (items ++ xs) k) item.1 in
         let e1 : between p b (Inside (items ++ x ∷ []) k) ≡ Ok next = subst (λ f. between p b f ≡ Ok next) there one.2 in
         let back = between_back n p b bs (Inside (items ++ x ∷ []) k) all next l e1 in
         (back.0, λ g. subst (λ f. Goes n (b ∷ bs) f (Run from run) all) (sym h.0.2) (end_run_back n b from k bs run items x all t item.2 (back.1 g)))
@@ -288,30 +304,50 @@ in_run_back n p b from bs run front all next l h e = by_run (is_run b) refl e
 
 end_string_back : (n from k : ℕ) (bs bytes : List ℕ) (items all : List Item) → IsUtf8 bytes →
     Goes n bs (Inside (items ++ Quote from bytes ∷ []) k) Between all → Goes n (34 ∷ bs) (Inside items k) (Quoted from bytes) all
-end_string_back n from k bs bytes items all h g =
-    (Quote from bytes ∷ g.0, g.1,
-      ([], bs, g.0, ap (λ cs. Quote from cs ∷ g.0) (sym (append-nil bytes)), refl, subst IsUtf8 (sym (append-nil bytes)) h, g.2))
+end_string_back n from k bs bytes items all h g = (
+  Quote from bytes ∷ g.0,
+  g.1,
+  ([], bs, g.0, ap (λ cs. Quote from cs ∷ g.0) (sym (append-nil bytes)), refl, subst IsUtf8 (sym (append-nil bytes)) h, g.2),
+)
 
 backslash_back : (n from : ℕ) (bs bytes : List ℕ) (front : Front) (all : List Item) →
     Goes n bs front (Escape from bytes) all → Goes n (92 ∷ bs) front (Quoted from bytes) all
 backslash_back n from bs bytes front all g =
     let s = g.2 in
     let spelled : string_byte s.0 ≡ 92 ∷ digit_char (s.0 / 16) ∷ digit_char (s.0 % 16) ∷ [] =
-      ap (λ v. cond v (s.0 ∷ []) (92 ∷ digit_char (s.0 / 16) ∷ digit_char (s.0 % 16) ∷ [])) s.6 in
-    let tail = flat_map string_byte s.1 in
-    (g.0, g.1, (s.0 ∷ s.1, s.2, s.3, s.4,
-      ap (λ cs. 92 ∷ cs) s.5 ∙ ap (λ cs. cs ++ (tail ++ 34 ∷ s.2)) (sym spelled) ∙ sym (append_assoc (string_byte s.0) tail (34 ∷ s.2)),
-      s.7, s.8))
+    ap (λ v. cond v (s.0 ∷ []) (92 ∷ digit_char (s.0 / 16) ∷ digit_char (s.0 % 16) ∷ [])) s.6 in
+    let tail = flat_map string_byte s.1 in (
+      g.0,
+      g.1,
+      (
+        s.0 ∷ s.1,
+        s.2,
+        s.3,
+        s.4,
+        ap (λ cs. 92 ∷ cs) s.5 ∙ ap (λ cs. cs ++ (tail ++ 34 ∷ s.2)) (sym spelled) ∙ sym (append_assoc (string_byte s.0) tail (34 ∷ s.2)),
+        s.7,
+        s.8,
+      ),
+    )
 
 plain_back : (n b from : ℕ) (bs bytes : List ℕ) (front : Front) (all : List Item) → is_plain b ≡ true →
     Goes n bs front (Quoted from (bytes ++ b ∷ [])) all → Goes n (b ∷ bs) front (Quoted from bytes) all
 plain_back n b from bs bytes front all h g =
     let s = g.2 in
     let spelled : string_byte b ≡ b ∷ [] = ap (λ v. cond v (b ∷ []) (92 ∷ digit_char (b / 16) ∷ digit_char (b % 16) ∷ [])) h in
-    let tail = flat_map string_byte s.0 in
-    (g.0, g.1, (b ∷ s.0, s.1, s.2, s.3 ∙ ap (λ cs. Quote from cs ∷ s.2) (append_assoc bytes (b ∷ []) s.0),
-      ap (λ cs. b ∷ cs) s.4 ∙ ap (λ cs. cs ++ (tail ++ 34 ∷ s.1)) (sym spelled) ∙ sym (append_assoc (string_byte b) tail (34 ∷ s.1)),
-      subst IsUtf8 (append_assoc bytes (b ∷ []) s.0) s.5, s.6))
+    let tail = flat_map string_byte s.0 in (
+      g.0,
+      g.1,
+      (
+        b ∷ s.0,
+        s.1,
+        s.2,
+        s.3 ∙ ap (λ cs. Quote from cs ∷ s.2) (append_assoc bytes (b ∷ []) s.0),
+        ap (λ cs. b ∷ cs) s.4 ∙ ap (λ cs. cs ++ (tail ++ 34 ∷ s.1)) (sym spelled) ∙ sym (append_assoc (string_byte b) tail (34 ∷ s.1)),
+        subst IsUtf8 (append_assoc bytes (b ∷ []) s.0) s.5,
+        s.6,
+      ),
+    )
 
 string_item : (from : ℕ) (bytes : List ℕ) (xs : List Item) → string_items from bytes ≡ Ok xs → (xs ≡ Quote from bytes ∷ []) × IsUtf8 bytes
 unfolding string_items
@@ -355,12 +391,15 @@ in_string_back n p b from bs bytes front all next h e = by_quote (eqb b 34) refl
         let two = bound (string_items from bytes) (λ more. Ok (added more front)) one.0 one.1 in
         let item = string_item from bytes two.0 two.1 in
         let there : one.0 ≡ Inside (items ++ Quote from bytes ∷ []) k =
-          ok_same (sym two.2) ∙ ap (λ f. added two.0 f) h.2 ∙ ap (λ xs. Inside (items ++ xs) k) item.0 in
+        ok_same (sym two.2) ∙ ap (λ f. added two.0 f) h.2 ∙ ap (λ xs. Inside (items ++ xs) k) item.0 in
         let same : 34 ≡ b = sym (eqb-true b 34 t) in
-        subst (Back n b bs front (Quoted from bytes) all) one.2 (tt, λ g.
-          subst (λ c. Goes n (c ∷ bs) front (Quoted from bytes) all) same
-          (subst (λ f. Goes n (34 ∷ bs) f (Quoted from bytes) all) (sym h.2)
-          (end_string_back n from k bs bytes items all item.1 (subst (λ f. Goes n bs f Between all) there g))))
+        subst (Back n b bs front (Quoted from bytes) all) one.2 (
+          tt,
+          λ g.
+              subst (λ c. Goes n (c ∷ bs) front (Quoted from bytes) all) same
+              (subst (λ f. Goes n (34 ∷ bs) f (Quoted from bytes) all) (sym h.2)
+              (end_string_back n from k bs bytes items all item.1 (subst (λ f. Goes n bs f Between all) there g))),
+        )
       where
         ok_same : {f g : Front} → ◌≡◌ {A = Result Front TextFault} (Ok f) (Ok g) → f ≡ g
         ok_same e = cc
@@ -376,9 +415,21 @@ first_back : (n b from : ℕ) (bs bytes : List ℕ) (front : Front) (all : List 
     Goes n bs front (Digit from bytes (hex_value b)) all → Goes n (b ∷ bs) front (Escape from bytes) all
 first_back n b from bs bytes front all h g =
     let s = g.2 in
-    let here : b ≡ digit_char (s.0 / 16) = sym (char_of_digit b h).0 ∙ ap digit_char (sym s.6) in
-    (g.0, g.1, (s.0, s.1, s.2, s.3, s.4,
-      ap (λ c. c ∷ bs) here ∙ ap (λ cs. digit_char (s.0 / 16) ∷ cs) s.5, s.7, s.8, s.9))
+    let here : b ≡ digit_char (s.0 / 16) = sym (char_of_digit b h).0 ∙ ap digit_char (sym s.6) in (
+      g.0,
+      g.1,
+      (
+        s.0,
+        s.1,
+        s.2,
+        s.3,
+        s.4,
+        ap (λ c. c ∷ bs) here ∙ ap (λ cs. digit_char (s.0 / 16) ∷ cs) s.5,
+        s.7,
+        s.8,
+        s.9,
+      ),
+    )
 
 second_back : (n b high from : ℕ) (bs bytes : List ℕ) (front : Front) (all : List Item) → is_hex b ≡ true → is_plain (16 * high + hex_value b) ≡ false →
     Goes n bs front (Quoted from (bytes ++ (16 * high + hex_value b) ∷ [])) all → Goes n (b ∷ bs) front (Digit from bytes high) all
@@ -388,9 +439,22 @@ second_back n b high from bs bytes front all h k g =
     let c = 16 * high + hex_value b in
     let low : c % 16 ≡ hex_value b = omega (arith, digit.1) in
     let top : c / 16 ≡ high = omega (arith, digit.1) in
-    let here : b ≡ digit_char (c % 16) = sym digit.0 ∙ ap digit_char (sym low) in
-    (g.0, g.1, (c, s.0, s.1, s.2, s.3 ∙ ap (λ cs. Quote from cs ∷ s.2) (append_assoc bytes (c ∷ []) s.0),
-      ap (λ d. d ∷ bs) here ∙ ap (λ cs. digit_char (c % 16) ∷ cs) s.4, top, k, subst IsUtf8 (append_assoc bytes (c ∷ []) s.0) s.5, s.6))
+    let here : b ≡ digit_char (c % 16) = sym digit.0 ∙ ap digit_char (sym low) in (
+      g.0,
+      g.1,
+      (
+        c,
+        s.0,
+        s.1,
+        s.2,
+        s.3 ∙ ap (λ cs. Quote from cs ∷ s.2) (append_assoc bytes (c ∷ []) s.0),
+        ap (λ d. d ∷ bs) here ∙ ap (λ cs. digit_char (c % 16) ∷ cs) s.4,
+        top,
+        k,
+        subst IsUtf8 (append_assoc bytes (c ∷ []) s.0) s.5,
+        s.6,
+      ),
+    )
 
 in_escape_back : (n p b from : ℕ) (bs bytes : List ℕ) (front : Front) (all : List Item) (next : Front × Mode) →
     IsInside front → step p b front (Escape from bytes) ≡ Ok next → Back n b bs front (Escape from bytes) all next

@@ -1,5 +1,7 @@
 pub mod Bytes
 pub mod Items
+pub mod Parts
+pub mod Printing
 pub mod Reading
 pub mod Spelling
 pub mod Fronts

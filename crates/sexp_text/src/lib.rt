@@ -3,6 +3,7 @@
 
 mod bytes;
 mod fault;
+mod print;
 mod read;
 mod reader;
 mod run;
@@ -10,4 +11,6 @@ mod sexp;
 mod step;
 
 pub use fault::{LimitWord, TextFault, TextWord};
+pub use print::print_sexp;
+pub use read::{one_value, read_sexp};
 pub use sexp::{Node, Sexp};
