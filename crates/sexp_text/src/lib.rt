@@ -9,6 +9,8 @@ mod reader;
 mod run;
 mod sexp;
 mod step;
+#[cfg(test)]
+mod tests;
 
 pub use fault::{LimitWord, TextFault, TextWord};
 pub use print::print_sexp;
