@@ -12,7 +12,7 @@ use Rattle.sexp_text.specs.declared.sexp.Sexp.{Sexp}
 use Rattle.sexp_text.specs.Bytes.{is_between, is_digit, is_name_byte, is_sign, is_run, is_white}
 use Rattle.sexp_text.specs.Items.{Item, Open, Close, Number, Name, Quote, node_items, row_items, items_of, items_of_all}
 use Rattle.sexp_text.specs.Spelling.{nothing, value_after, WritesPositive, WritesNumber, IsWord, quoted, Marks, EndsRun, Spelled, IsList, depth_of_node, depth_of_row, SexpSpells}
-use Rattle.sexp_text.specs.Printing.{printed_node, printed_row, printed_others, printed, Tree, Branch, Cons, tree_of_node, trees_of_row, tree_of}
+use Rattle.sexp_text.specs.Printing.{printed_node, printed_row, printed_others, printed, Branch, Cons, tree_of_node, trees_of_row, tree_of}
 use Rattle.sexp_text.proofs.FrontLemmas.{items_of-List}
 use Rattle.sexp_text.proofs.PrintLemmas.{trees_all, depth_all, tree_of_node-List, depth_of_node-List}
 use Rattle.sexp_text.proofs.SoundLemmas.{white_more}

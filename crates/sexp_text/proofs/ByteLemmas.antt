@@ -1,12 +1,12 @@
 -- What the tests of bytes say.
-use Rattle.std.proofs.Common.{◌≡◌, ℕ, ◌+◌, ◌<◌, ◌≤◌, Bool, true, false, cond, ◌⊎◌, eqb, List, [], ◌∷◌, length, get_or, subst, refl, sym, ap, ◌∙◌, inl, inr, arith}
+use Rattle.std.proofs.Common.{◌≡◌, ℕ, ◌+◌, ◌<◌, ◌≤◌, Bool, true, false, cond, eqb, List, [], ◌∷◌, length, get_or, subst, refl, sym, arith}
 use Rattle.std.specs.Str.{IsAscii, IsUtf8}
 use Rattle.std.specs.List.{prefix_len}
 use Rattle.std.proofs.lemmas.Bool.{eqb-true}
 use Rattle.std.proofs.lemmas.Bool.Decides.{nat_tests}
 use Rattle.std.proofs.lemmas.Str.{IsUtf8-from_ascii}
 use Rattle.std.proofs.lemmas.Str.Ascii.{IsAscii-cons, IsAscii-nil}
-use Rattle.sexp_text.specs.Bytes.{is_letter, is_digit, is_name_byte, is_sign, is_hex}
+use Rattle.sexp_text.specs.Bytes.{is_letter, is_name_byte, is_sign, is_hex}
 use Rattle.sexp_text.specs.Reading.{word_end, begins_escape}
 
 pub is_name_byte-below : (b : ℕ) → is_name_byte b ≡ true → b < 128

@@ -1,13 +1,11 @@
 -- What is spelled so is read.
-use Rattle.std.proofs.Common.{◌≡◌, ℕ, zero, suc, ◌+◌, ◌<◌, ◌≤◌, List, [], ◌∷◌, ◌++◌, length, Result, Ok, Err, refl, sym, ap, ◌∙◌, subst, append_assoc, length-append, arith}
-use Rattle.std.specs.Str.{IsUtf8}
-use Rattle.sexp_text.specs.declared.fault.TextFault.{TextFault}
+use Rattle.std.proofs.Common.{◌≡◌, ℕ, zero, suc, ◌+◌, ◌<◌, List, [], ◌∷◌, ◌++◌, length, Ok, refl, sym, ap, ◌∙◌, subst, length-append, arith}
 use Rattle.sexp_text.specs.declared.reader.Mode.TheVariants.{Between}
 use Rattle.sexp_text.specs.declared.sexp.Sexp.{Sexp}
 use Rattle.sexp_text.specs.Items.{Item, Open, Close, Number, Name, Quote, items_of}
 use Rattle.sexp_text.specs.Reading.{◌>>=◌, Front, Before, Inside, After, opened, closed, run_items, read_from, read}
-use Rattle.sexp_text.specs.Spelling.{Gap, quoted, EndsRun, Marks, StandsAt, StandsApart, Spelled, SexpSpells}
-use Rattle.sexp_text.proofs.NumberLemmas.{ReadsNumber, ReadsWord, writes_number, number_items, writes_word, word_items}
+use Rattle.sexp_text.specs.Spelling.{quoted, EndsRun, Marks, StandsAt, StandsApart, Spelled, SexpSpells}
+use Rattle.sexp_text.proofs.NumberLemmas.{writes_number, number_items, writes_word, word_items}
 use Rattle.sexp_text.proofs.PutLemmas.{put_part, put, puts, bound, whole_puts}
 use Rattle.sexp_text.proofs.ReadLemmas.{AreRun, go_on, go_on-mode, step_open, step_close, place, gap_read, last_gap_read, run_read, string_read}
 

@@ -1,13 +1,13 @@
 -- The items of a value by its parts, and what the reader's own steps do to the items that were read.
 use mathlib.Core.Former.{Count}
-use Rattle.std.proofs.Common.{◌≡◌, ℕ, suc, ◌+◌, ◌<◌, ◌≤◌, true, false, List, [], ◌∷◌, ◌++◌, length, Ok, Err, refl, sym, ap, ◌∙◌, append_assoc, arith}
+use Rattle.std.proofs.Common.{◌≡◌, ℕ, suc, ◌+◌, ◌<◌, ◌≤◌, List, [], ◌∷◌, ◌++◌, length, Ok, Err, refl, ap, ◌∙◌, append_assoc, arith}
 use Rattle.std.proofs.lemmas.Bool.{lt-ltb, le-ltb}
 use Rattle.std.proofs.lemmas.Grind.{flat_map-append}
 use Rattle.std.proofs.lemmas.List.{append-nil}
 use Rattle.sexp_text.specs.declared.fault.TextFault.TheVariants.{Refused, Limit}
 use Rattle.sexp_text.specs.declared.fault.TextWord.TheVariants as word
 use Rattle.sexp_text.specs.declared.fault.LimitWord.TheVariants.{Nesting}
-use Rattle.sexp_text.specs.declared.sexp.Node.{Node, Row_of-Sexp, end_of-Sexp, more_of-Sexp, items-the_row-Sexp, items_hidden-the_row-Sexp-0}
+use Rattle.sexp_text.specs.declared.sexp.Node.{Row_of-Sexp, end_of-Sexp, more_of-Sexp, items-the_row-Sexp, items_hidden-the_row-Sexp-0}
 use Rattle.sexp_text.specs.declared.sexp.Node.TheBlock.{hidden-the_row-Sexp-0}
 use Rattle.sexp_text.specs.declared.sexp.Node.TheVariants as node
 use Rattle.sexp_text.specs.declared.sexp.Sexp.{Sexp}
@@ -15,7 +15,7 @@ use Rattle.sexp_text.specs.declared.reader.OpenList.{OpenList}
 use Rattle.sexp_text.specs.declared.reader.Progress.{Progress}
 use Rattle.sexp_text.specs.declared.reader.Progress.TheVariants as progress
 use Rattle.sexp_text.specs.Items.{Item, Open, Close, node_items, row_items, items_of, items_of_all}
-use Rattle.sexp_text.specs.Reading.{Front, Before, Inside, After, opened, closed, added}
+use Rattle.sexp_text.specs.Reading.{Inside, opened, closed, added}
 use Rattle.sexp_text.specs.Fronts.{open_items, all_open_items, front_of}
 
 pub row_items-listed : {n : Count} (row : Row_of-Sexp n) → row_items row ≡ items_of_all (items-the_row-Sexp n row)

@@ -7,7 +7,7 @@ use Rattle.sexp_text.specs.declared.sexp.Node.TheBlock.{hidden-the_row-Sexp-0}
 use Rattle.sexp_text.specs.declared.sexp.Node.TheVariants as node
 use Rattle.sexp_text.specs.declared.sexp.Sexp.{Sexp}
 use Rattle.sexp_text.specs.Spelling.{depth_of_node, depth_of_row}
-use Rattle.sexp_text.specs.Printing.{printed_node, printed_row, printed_others, Tree, Trees, Nil, Cons, Branch, tree_of_node, trees_of_row}
+use Rattle.sexp_text.specs.Printing.{printed_node, printed_row, printed_others, Trees, Nil, Cons, Branch, tree_of_node, trees_of_row}
 use Rattle.sexp_text.specs.Parts.{spaced, printed_parts}
 
 printed_others-listed : {n : Count} (row : Row_of-Sexp n) → printed_others row ≡ flat_map spaced (items-the_row-Sexp n row)

@@ -1,20 +1,18 @@
 -- What is spelled so is read: the steps of reading over gaps and spellings.
-use Rattle.std.proofs.Common.{◌≡◌, ℕ, zero, suc, ◌+◌, ◌-◌, ◌*◌, ◌/◌, ◌%◌, ◌<◌, ◌≤◌, Bool, true, false, cond, eqb, List, [], ◌∷◌, ◌++◌, length, Result, Ok, Err, refl, sym, ap, ◌∙◌, subst, ⊎_elim, append_assoc, length-append, arith}
+use Rattle.std.proofs.Common.{◌≡◌, ℕ, ◌+◌, ◌*◌, ◌/◌, ◌%◌, ◌<◌, Bool, true, false, cond, eqb, List, [], ◌∷◌, ◌++◌, length, Result, Ok, Err, refl, sym, ap, ◌∙◌, ⊎_elim, append_assoc, length-append, arith}
 use Rattle.std.proofs.lemmas.Bool.{ne_eqb}
 use Rattle.std.proofs.lemmas.Bool.Decides.{nat_tests}
 use Rattle.std.proofs.lemmas.List.{append-nil}
 use Rattle.std.proofs.lemmas.Str.{is_utf8-from_IsUtf8}
 use Rattle.std.specs.Char.{digit_char}
 use Rattle.std.specs.List.{AllByRecursion, flat_map}
-use Rattle.std.specs.Str.{is_utf8, IsUtf8}
+use Rattle.std.specs.Str.{IsUtf8}
 use Rattle.sexp_text.specs.declared.fault.TextFault.{TextFault}
-use Rattle.sexp_text.specs.declared.fault.TextFault.TheVariants.{Refused}
-use Rattle.sexp_text.specs.declared.fault.TextWord.TheVariants as word
 use Rattle.sexp_text.specs.declared.reader.Mode.{Mode}
 use Rattle.sexp_text.specs.declared.reader.Mode.TheVariants.{Between, Comment, Run, Quoted, Escape, Digit}
-use Rattle.sexp_text.specs.Bytes.{is_between, is_white, is_letter, is_digit, is_name_byte, is_sign, is_run, is_plain, is_hex, hex_value}
-use Rattle.sexp_text.specs.Items.{Item, Open, Close, Number, Name, Quote}
-use Rattle.sexp_text.specs.Reading.{◌>>=◌, refused, Front, Before, Inside, After, opened, closed, begun, added, with_mode, with_items, between, in_string, begins_escape, first_digit, second_digit, run_items, string_items, step, finish, read_from}
+use Rattle.sexp_text.specs.Bytes.{is_white, is_name_byte, is_sign, is_run, is_plain, is_hex, hex_value}
+use Rattle.sexp_text.specs.Items.{Item, Quote}
+use Rattle.sexp_text.specs.Reading.{◌>>=◌, Front, Inside, After, opened, closed, begun, added, with_mode, between, in_string, begins_escape, first_digit, second_digit, run_items, string_items, step, finish, read_from}
 use Rattle.sexp_text.specs.Spelling.{Gap, nothing, white, comment, IsLine, LastGap, string_byte, quoted, EndsRun}
 use Rattle.sexp_text.proofs.Utf8Lemmas.{AreBytes, utf8_bytes}
 

@@ -2,10 +2,10 @@
 use Rattle.std.proofs.Common.{◌≡◌, ℕ, List, [], ◌∷◌, ◌++◌, refl, sym, ap, ◌∙◌, append_assoc}
 use Rattle.std.proofs.lemmas.List.{append-nil}
 use Rattle.sexp_text.specs.declared.sexp.Node.{Node, Num, Word, Str, List', Row_of-Sexp, end_of-Sexp, more_of-Sexp, items-the_row-Sexp}
-use Rattle.sexp_text.specs.declared.sexp.Node.TheBlock.{shown-the_row-Sexp-0, items_shown-the_row-Sexp-0, backs-Node}
+use Rattle.sexp_text.specs.declared.sexp.Node.TheBlock.{items_shown-the_row-Sexp-0, backs-Node}
 use Rattle.sexp_text.specs.declared.sexp.Node.TheVariants as node
 use Rattle.sexp_text.specs.declared.sexp.Sexp.{Sexp}
-use Rattle.sexp_text.specs.Items.{Item, Open, Close, Number, Name, Quote, node_items, row_items, items_of}
+use Rattle.sexp_text.specs.Items.{Item, Close, node_items, row_items, items_of}
 
 -- a list is the list of its parts
 list_of_row : (shape : _) (row : Row_of-Sexp _) → node.List (items-the_row-Sexp _ row) ≡ List' shape row

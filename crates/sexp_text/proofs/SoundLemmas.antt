@@ -1,5 +1,5 @@
 -- What is read is spelled so: from what reading gives, backwards over each byte.
-use Rattle.std.proofs.Common.{◌≡◌, ℕ, zero, suc, ◌+◌, ◌-◌, ◌*◌, ◌/◌, ◌%◌, ◌<◌, ◌≤◌, Bool, true, false, cond, eqb, ltb, ◌⊎◌, inl, inr, ⊎_elim, List, [], ◌∷◌, ◌++◌, length, Result, Ok, Err, refl, sym, ap, ◌∙◌, subst, append_assoc, length-append, arith}
+use Rattle.std.proofs.Common.{◌≡◌, ℕ, zero, suc, ◌+◌, ◌*◌, ◌/◌, ◌%◌, ◌<◌, Bool, true, false, cond, eqb, ltb, ◌⊎◌, inl, inr, ⊎_elim, List, [], ◌∷◌, ◌++◌, length, Result, Ok, Err, refl, sym, ap, ◌∙◌, subst, append_assoc, length-append, arith}
 use Rattle.std.proofs.lemmas.Bool.{eqb-true, eqb-false}
 use Rattle.std.proofs.lemmas.Bool.Decides.{nat_tests}
 use Rattle.std.proofs.lemmas.List.{append-nil}
@@ -13,11 +13,11 @@ use Rattle.sexp_text.specs.declared.fault.TextWord.TheVariants as word
 use Rattle.sexp_text.specs.declared.fault.LimitWord.TheVariants.{Nesting}
 use Rattle.sexp_text.specs.declared.reader.Mode.{Mode}
 use Rattle.sexp_text.specs.declared.reader.Mode.TheVariants.{Between, Comment, Run, Quoted, Escape, Digit}
-use Rattle.sexp_text.specs.Bytes.{is_white, is_run, is_plain, is_hex, is_digit, hex_value}
+use Rattle.sexp_text.specs.Bytes.{is_white, is_run, is_plain, is_hex, hex_value}
 use Rattle.sexp_text.specs.declared.sexp.Sexp.{Sexp}
 use Rattle.sexp_text.specs.Items.{Item, Open, Close, Number, Name, Quote, items_of}
 use Rattle.sexp_text.specs.Reading.{◌>>=◌, refused, Front, Before, Inside, After, opened, closed, begun, added, with_mode, with_items, between, in_string, begins_escape, first_digit, second_digit, run_items, string_items, step, finish, read_from, read}
-use Rattle.sexp_text.specs.Spelling.{Gap, nothing, white, comment, IsLine, LastGap, string_byte, quoted, Marks, StandsAt, StandsApart, Spelled, SexpSpells}
+use Rattle.sexp_text.specs.Spelling.{Gap, nothing, white, comment, IsLine, string_byte, quoted, Marks, StandsAt, StandsApart, Spelled, SexpSpells}
 use Rattle.sexp_text.proofs.ByteLemmas.{begins_escape-hex}
 use Rattle.sexp_text.proofs.NumberLemmas.{run_writes}
 use Rattle.sexp_text.proofs.PutLemmas.{put, puts, bound, whole_fits}

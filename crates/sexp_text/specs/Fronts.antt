@@ -1,5 +1,5 @@
 -- What the reader's own types stand for.
-use Rattle.std.specs.Prelude.{◌≡◌, ℕ, ◌+◌, ◌<◌, List, [], ◌∷◌, ◌++◌, length}
+use Rattle.std.specs.Prelude.{◌≡◌, ℕ, ◌+◌, ◌<◌, List, ◌∷◌, ◌++◌, length}
 use Rattle.std.specs.List.{flat_map}
 use Rattle.sexp_text.specs.declared.reader.OpenList.{OpenList}
 use Rattle.sexp_text.specs.declared.reader.Mode.{Mode}

@@ -1,5 +1,5 @@
 -- The parts of a list as a list of values.
-use Rattle.std.specs.Prelude.{ℕ, ◌+◌, max, List, [], ◌∷◌, ◌++◌}
+use Rattle.std.specs.Prelude.{ℕ, List, [], ◌∷◌, ◌++◌}
 use Rattle.std.specs.List.{flat_map}
 use Rattle.sexp_text.specs.declared.sexp.Sexp.{Sexp}
 use Rattle.sexp_text.specs.Printing.{printed_node}

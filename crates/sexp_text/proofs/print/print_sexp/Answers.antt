@@ -1,4 +1,4 @@
-use Rattle.std.proofs.Common.{◌++◌, sym, ap, ◌∙◌}
+use Rattle.std.proofs.Common.{◌++◌, ap, ◌∙◌}
 use Rattle.sexp_text.specs.Printing.{printed, printed_node}
 use Rattle.sexp_text.proofs.print.print_sexp.Goals as goal
 

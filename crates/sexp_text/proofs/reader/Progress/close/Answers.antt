@@ -1,4 +1,3 @@
-use Rattle.std.proofs.Common.{ap}
 use Rattle.sexp_text.proofs.FrontLemmas.{close-last, close-inside, close-before, close-after}
 use Rattle.sexp_text.proofs.reader.Progress.close.Goals as goal
 
