@@ -81,3 +81,26 @@ pub word_utf8 : (run : List ℕ) → word_end run ≡ length run → IsUtf8 run
 word_utf8 run h = IsUtf8-from_ascii run (word_ascii run h)
 
 pub ruleset escapes = (begins_escape-hex)
+
+-- the longest front that is a word is no longer than the run
+pub word_end-le : (run : List ℕ) → word_end run ≤ length run
+unfolding word_end
+word_end-le [] = omega arith
+word_end-le (b ∷ bs) = by_letter (is_letter b)
+  where
+    by_less : (cs : List ℕ) (v : Bool) → cond v (cond (eqb (get_or cs 0 0) 61) 2 1) 0 ≤ length (b ∷ cs)
+    by_less [] true = omega arith
+    by_less (c ∷ cs) true = by_equals (eqb c 61)
+      where
+        by_equals : (v : Bool) → cond v 2 1 ≤ length (b ∷ c ∷ cs)
+        by_equals true = omega arith
+        by_equals false = omega arith
+    by_less cs false = omega arith
+
+    by_sign : (v : Bool) → cond v 1 (cond (eqb b 60) (cond (eqb (get_or bs 0 0) 61) 2 1) 0) ≤ length (b ∷ bs)
+    by_sign true = omega arith
+    by_sign false = by_less bs (eqb b 60)
+
+    by_letter : (v : Bool) → cond v (prefix_len is_name_byte bs + 1) (cond (is_sign b) 1 (cond (eqb b 60) (cond (eqb (get_or bs 0 0) 61) 2 1) 0)) ≤ length (b ∷ bs)
+    by_letter true = omega (arith, prefix_len-le is_name_byte bs)
+    by_letter false = by_sign (is_sign b)

@@ -1,6 +1,7 @@
 mod AgainLemmas
 mod ByteLemmas
 mod CompleteLemmas
+mod FaultLemmas
 mod FrontLemmas
 mod NumberLemmas
 mod PrintLemmas

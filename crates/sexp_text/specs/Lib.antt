@@ -4,4 +4,5 @@ pub mod Parts
 pub mod Printing
 pub mod Reading
 pub mod Spelling
+pub mod Faults
 pub mod Fronts
