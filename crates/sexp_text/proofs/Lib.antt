@@ -3,6 +3,7 @@ mod ByteLemmas
 mod CompleteLemmas
 mod FaultLemmas
 mod FrontLemmas
+mod GoOnLemmas
 mod NumberLemmas
 mod PrintLemmas
 mod PutLemmas

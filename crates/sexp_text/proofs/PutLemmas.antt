@@ -78,7 +78,7 @@ pub bound : {A B : Type 0} (r : Result A TextFault) (f : A → Result B TextFaul
 bound (Ok x) f y e = (x, refl, e)
 bound (Err d) f y e = cc
 
-opened_room : (at k : ℕ) (items : List Item) (g : Front) → opened at (Inside items k) ≡ Ok g → (k + 1 < 500) × (g ≡ Inside (items ++ Open at ∷ []) (suc k))
+pub opened_room : (at k : ℕ) (items : List Item) (g : Front) → opened at (Inside items k) ≡ Ok g → (k + 1 < 500) × (g ≡ Inside (items ++ Open at ∷ []) (suc k))
 unfolding opened
 opened_room at k items g e = by_room (ltb (k + 1) 500) refl e
   where
