@@ -50,7 +50,7 @@ SpelledIn n (Digit from bytes high) text xs =
 abbrev Goes : ℕ → List ℕ → Front → Mode → List Item → Type 0
 Goes n text front mode all = (xs : List Item) × (puts xs front ≡ Ok (After all)) × SpelledIn n mode text xs
 
-abbrev IsInside : Front → Type 0
+abbrev pub IsInside : Front → Type 0
 IsInside front = (items : List Item) × (k : ℕ) × (front ≡ Inside items k)
 
 -- runs and strings stand in lists, and a run that is begun has a byte
@@ -156,13 +156,13 @@ run_back n p b bs front all l g =
 
 -- all bytes between parts
 
-begun_next : (p : ℕ) (mode : Mode) (front : Front) (next : Front × Mode) → begun p mode front ≡ Ok next → IsInside front × ((front, mode) ≡ next)
+pub begun_next : (p : ℕ) (mode : Mode) (front : Front) (next : Front × Mode) → begun p mode front ≡ Ok next → IsInside front × ((front, mode) ≡ next)
 unfolding begun
 begun_next p mode Before next e = cc
 begun_next p mode (Inside items k) next e = ((items, k, refl), cc)
 begun_next p mode (After items) next e = cc
 
-with_mode_next : (mode : Mode) (r : Result Front TextFault) (next : Front × Mode) → with_mode mode r ≡ Ok next → (f : Front) × (r ≡ Ok f) × ((f, mode) ≡ next)
+pub with_mode_next : (mode : Mode) (r : Result Front TextFault) (next : Front × Mode) → with_mode mode r ≡ Ok next → (f : Front) × (r ≡ Ok f) × ((f, mode) ≡ next)
 with_mode_next mode (Ok f) next e = (f, refl, cc)
 with_mode_next mode (Err d) next e = cc
 
@@ -349,7 +349,7 @@ plain_back n b from bs bytes front all h g =
       ),
     )
 
-string_item : (from : ℕ) (bytes : List ℕ) (xs : List Item) → string_items from bytes ≡ Ok xs → (xs ≡ Quote from bytes ∷ []) × IsUtf8 bytes
+pub string_item : (from : ℕ) (bytes : List ℕ) (xs : List Item) → string_items from bytes ≡ Ok xs → (xs ≡ Quote from bytes ∷ []) × IsUtf8 bytes
 unfolding string_items
 string_item from bytes xs e = by_utf8 (is_utf8 bytes) refl e
   where
