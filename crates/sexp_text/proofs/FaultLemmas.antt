@@ -1,5 +1,5 @@
 -- A fault other than `end` stays, whatever follows.
-use Rattle.std.proofs.Common.{◌≡◌, ℕ, zero, suc, ℤ, pos, neg_ℤ, ◌+◌, ◌-◌, ◌*◌, ◌^◌, ◌<◌, ◌≤◌, Bool, true, false, cond, eqb, ltb, ◌&&◌, ◌||◌, List, [], ◌∷◌, ◌++◌, length, get_or, Option, Some, None, Result, Ok, Err, refl, sym, ap, ◌∙◌, subst, length-append, arith}
+use Rattle.std.proofs.Common.{◌≡◌, ℕ, ℤ, pos, neg_ℤ, ◌+◌, ◌-◌, ◌*◌, ◌^◌, Bool, true, false, cond, eqb, ltb, ◌&&◌, ◌||◌, List, [], ◌∷◌, ◌++◌, length, get_or, Option, Some, None, Result, Ok, Err, refl, sym, ap, ◌∙◌, subst, length-append, arith}
 use Rattle.std.proofs.lemmas.Bool.{eqb-true, eqb-false, ne_eqb}
 use Rattle.std.specs.Option.{option_map}
 use Rattle.std.specs.List.{prefix_len}
@@ -131,7 +131,7 @@ run_stays from run b fault e = by_begin (begins_number run) refl e
         let same = word_end_stays run b differ in
         let below = word_end-le run in
         let longer : eqb (word_end run) (length (run ++ b ∷ [])) ≡ false =
-          ne_eqb (word_end run) (length (run ++ b ∷ [])) (λ k. omega (arith, k, below, length-append run (b ∷ []))) in
+        ne_eqb (word_end run) (length (run ++ b ∷ [])) (λ k. omega (arith, k, below, length-append run (b ∷ []))) in
         rw (begins_never run b n differ, same, longer) e
 
     by_begin : (v : Bool) → begins_number run ≡ v →

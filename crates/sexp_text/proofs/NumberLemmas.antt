@@ -1,5 +1,5 @@
 -- Runs that are numbers and words: what is read is spelled so, and what is spelled so is read.
-use Rattle.std.proofs.Common.{◌≡◌, ℕ, zero, suc, ℤ, pos, negsuc, neg_ℤ, ◌+◌, ◌-◌, ◌*◌, ◌^◌, ◌<◌, ◌≤◌, Bool, true, false, cond, eqb, ltb, ◌&&◌, ◌⊎◌, inl, inr, ⊎_elim, List, [], ◌∷◌, length, get_or, Option, Some, None, Ok, refl, sym, ap, ◌∙◌, subst, arith}
+use Rattle.std.proofs.Common.{◌≡◌, ℕ, zero, suc, ℤ, pos, negsuc, neg_ℤ, ◌+◌, ◌-◌, ◌*◌, ◌^◌, ◌<◌, ◌≤◌, Bool, true, false, cond, eqb, ltb, ◌&&◌, ◌⊎◌, inl, inr, ⊎_elim, List, [], ◌∷◌, ◌++◌, length, get_or, Option, Some, None, Ok, refl, sym, ap, ◌∙◌, subst, arith}
 use Rattle.std.proofs.lemmas.Bool.{eqb-true, eq-eqb, ne_eqb, ltb-true, lt-ltb}
 use Rattle.std.proofs.lemmas.Bool.Decides.{nat_tests}
 use Rattle.std.specs.Option.{option_map}
@@ -330,3 +330,44 @@ run_writes at run xs some e = by_begin (begins_number run) refl e
         ((z : ℤ) × (xs ≡ Number at z ∷ []) × WritesNumber run z) ⊎ ((xs ≡ Name at run ∷ []) × IsWord run)
     by_begin true t e = inl (by_number (number_of run) refl e)
     by_begin false t e = inr (by_end (eqb (word_end run) (length run)) refl e)
+
+names_before : (bs rest : List ℕ) → AllByRecursion (λ c. is_name_byte c ≡ true) bs → length bs ≤ prefix_len is_name_byte (bs ++ rest)
+names_before [] rest h = omega arith
+names_before (b ∷ bs) rest h =
+    let more = names_before bs rest h.1 in
+    subst (λ v. length (b ∷ bs) ≤ cond v (1 + prefix_len is_name_byte (bs ++ rest)) 0) (sym h.0) (omega (arith, more))
+
+less_before : (rest : List ℕ) → length {A = ℕ} (60 ∷ []) ≤ word_end ((60 ∷ []) ++ rest)
+unfolding word_end is_sign
+less_before rest = one (eqb (get_or rest 0 0) 61)
+  where
+    one : (v : Bool) → length {A = ℕ} (60 ∷ []) ≤ cond v 2 1
+    one true = omega arith
+    one false = omega arith
+
+less_equal_before : (rest : List ℕ) → length {A = ℕ} (60 ∷ 61 ∷ []) ≤ word_end ((60 ∷ 61 ∷ []) ++ rest)
+unfolding word_end is_sign
+less_equal_before rest = omega arith
+
+sign_before : (b : ℕ) (rest : List ℕ) → is_sign b ≡ true → length (b ∷ []) ≤ word_end ((b ∷ []) ++ rest)
+unfolding word_end
+sign_before b rest h = rw ((sign_run b h).2, h) (omega arith)
+
+name_before : (b : ℕ) (bs rest : List ℕ) → is_letter b ≡ true → AllByRecursion (λ c. is_name_byte c ≡ true) bs → length (b ∷ bs) ≤ word_end ((b ∷ bs) ++ rest)
+unfolding word_end
+name_before b bs rest h hs = let e = names_before bs rest hs in rw h (omega (arith, e))
+
+-- no front that is a word is longer than the longest
+pub word_longest : (w rest : List ℕ) → IsWord w → length w ≤ word_end (w ++ rest)
+word_longest [] rest h = absurd h
+word_longest (b ∷ bs) rest h =
+    let P : List ℕ → Type 0 = λ w. length w ≤ word_end (w ++ rest) in
+    ⊎_elim (λ n. name_before b bs rest n.0 n.1)
+    (λ other. ⊎_elim
+    (λ s. subst P (ap (λ cs. b ∷ cs) (sym s.1)) (sign_before b rest s.0))
+    (λ l. subst P (ap (λ c. c ∷ bs) (sym l.0)) (⊎_elim
+    (λ e. subst P (ap (λ cs. 60 ∷ cs) (sym e)) (less_before rest))
+    (λ e. subst P (ap (λ cs. 60 ∷ cs) (sym e)) (less_equal_before rest))
+    l.1))
+    other)
+    h

@@ -1,14 +1,17 @@
 -- The laws that join what a text spells, what is read of it and what is printed.
-use Rattle.std.proofs.Common.{◌≡◌, ℕ, List, Result, Ok, Err, IfOk, refl, sym, ap, ◌∙◌, subst}
+use Rattle.std.proofs.Common.{◌≡◌, ◌++◌, ℕ, List, Result, Ok, Err, IfOk, refl, sym, ap, ◌∙◌, subst}
 use Rattle.sexp_text.specs.declared.fault.TextFault.{TextFault}
 use Rattle.sexp_text.specs.declared.fault.TextFault.TheVariants.{Refused, Limit, OutOfMemory}
 use Rattle.sexp_text.specs.declared.sexp.Sexp.{Sexp}
+use Rattle.sexp_text.specs.declared.reader.Mode.TheVariants.{Between}
+use Rattle.sexp_text.specs.Faults.{IsNoEnd}
 use Rattle.sexp_text.specs.Items.{Item, items_of}
-use Rattle.sexp_text.specs.Reading.{Gives, read}
+use Rattle.sexp_text.specs.Reading.{Gives, Before, read}
 use Rattle.sexp_text.specs.Spelling.{SexpSpells}
 use Rattle.sexp_text.specs.Printing.{printed, tree_of}
 use Rattle.sexp_text.proofs.AgainLemmas.{printed_again}
 use Rattle.sexp_text.proofs.CompleteLemmas.{read-spelled}
+use Rattle.sexp_text.proofs.FaultLemmas.{stays}
 use Rattle.sexp_text.proofs.SameLemmas.{items_of-same}
 use Rattle.sexp_text.proofs.SoundLemmas.{spelled-read}
 
@@ -39,3 +42,7 @@ pub again : (r : Result Sexp TextFault) (text : List ℕ) (s : Sexp) (other : Li
 again r text s other e h t =
     let a = printed_again other s h in
     given r text a.0 e (subst (λ bs. SexpSpells bs a.0) (sym t) a.1) tree_of (tree_of s) a.2
+
+pub fault_stays : (text more : List ℕ) (fault : TextFault) → read text ≡ Err fault → IsNoEnd fault → read (text ++ more) ≡ Err fault
+unfolding read
+fault_stays text more fault e n = stays text more 0 Before Between fault e n

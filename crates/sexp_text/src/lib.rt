@@ -3,6 +3,7 @@
 
 mod bytes;
 mod fault;
+mod laws;
 mod print;
 mod read;
 mod reader;
@@ -13,6 +14,7 @@ mod step;
 mod tests;
 
 pub use fault::{LimitWord, TextFault, TextWord};
+pub use laws::{longest_reading, longest_word, one_value, printed_again};
 pub use print::print_sexp;
-pub use read::{one_value, read_sexp};
+pub use read::read_sexp;
 pub use sexp::{Node, Sexp};

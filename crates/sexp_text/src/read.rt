@@ -1,4 +1,4 @@
-// Reading a whole text, and the laws of texts.
+// Reading a whole text.
 
 ghost use Rattle.std.specs.Prelude.{◌≡◌, ◌++◌, ℕ, List, Ok, IfOk};
 ghost use Rattle.sexp_text.specs.declared.sexp.Sexp.{Sexp};
@@ -44,8 +44,3 @@ pub fn read_sexp(alloc: Global, text: &[u8]) -> Result<Sexp, TextFault>
 {
     read_items(alloc, text)
 }
-
-/// A text spells at most one value.
-pub fn one_value()
-    ensures { (text : List ℕ) (s t : Sexp) → SexpSpells text s → SexpSpells text t → s ≡ t }
-{}
