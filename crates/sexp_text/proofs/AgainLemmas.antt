@@ -12,9 +12,9 @@ use Rattle.sexp_text.specs.declared.sexp.Sexp.{Sexp}
 use Rattle.sexp_text.specs.Bytes.{is_between, is_digit, is_name_byte, is_sign, is_run, is_white}
 use Rattle.sexp_text.specs.Items.{Item, Open, Close, Number, Name, Quote, node_items, row_items, items_of, items_of_all}
 use Rattle.sexp_text.specs.Spelling.{nothing, value_after, WritesPositive, WritesNumber, IsWord, quoted, Marks, EndsRun, Spelled, IsList, depth_of_node, depth_of_row, SexpSpells}
-use Rattle.sexp_text.specs.Printing.{printed_node, printed_row, printed_others, printed, Branch, Cons, tree_of_node, trees_of_row, tree_of}
+use Rattle.sexp_text.specs.Printing.{printed_node, printed_row, printed_others, printed, Branch, Cons, tree_of_node, trees_of_row, tree_of, trees_of}
 use Rattle.sexp_text.proofs.FrontLemmas.{items_of-List}
-use Rattle.sexp_text.proofs.PrintLemmas.{trees_all, depth_all, tree_of_node-List, depth_of_node-List}
+use Rattle.sexp_text.proofs.PrintLemmas.{depth_all, tree_of_node-List, depth_of_node-List}
 use Rattle.sexp_text.proofs.SoundLemmas.{white_more}
 
 -- a number's decimal text
@@ -121,7 +121,7 @@ NodeAgain node n rest ys =
 
 abbrev PartsAgain : {k : _} → Row_of-Sexp k → List ℕ → ℕ → List ℕ → List Item → Type 0
 PartsAgain row text n rest ys =
-    (parts : List Sexp) × (trees_all parts ≡ trees_of_row row) × (depth_all parts ≡ depth_of_row row) × Spelled n (text ++ rest) (items_of_all parts ++ ys)
+    (parts : List Sexp) × (trees_of parts ≡ trees_of_row row) × (depth_all parts ≡ depth_of_row row) × Spelled n (text ++ rest) (items_of_all parts ++ ys)
 
 list_again : (at : ℕ) (shape : _) (row : Row_of-Sexp _) (n : ℕ) (rest : List ℕ) (ys : List Item) → length (printed_node (List' shape row) ++ rest) ≤ n →
     PartsAgain row (printed_row row) n (41 ∷ rest) (Close ∷ ys) → NodeAgain (List' shape row) n rest ys
@@ -145,7 +145,7 @@ list_again at shape row n rest ys l p =
 
 cons_again : (node : Node) {k : _} (others : Row_of-Sexp k) (text : List ℕ) (n : ℕ) (rest : List ℕ) (ys : List Item) →
     (p : PartsAgain others text n rest ys) → NodeAgain node n (text ++ rest) (items_of_all p.0 ++ ys) →
-    (parts : List Sexp) × (trees_all parts ≡ Cons (tree_of_node node) (trees_of_row others)) × (depth_all parts ≡ max (depth_of_node node) (depth_of_row others)) ×
+    (parts : List Sexp) × (trees_of parts ≡ Cons (tree_of_node node) (trees_of_row others)) × (depth_all parts ≡ max (depth_of_node node) (depth_of_row others)) ×
     Spelled n ((printed_node node ++ text) ++ rest) (items_of_all parts ++ ys)
 unfolding items_of
 cons_again node others text n rest ys p a = (

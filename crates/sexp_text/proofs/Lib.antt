@@ -1,14 +1,14 @@
-mod AgainLemmas
-mod ByteLemmas
-mod CompleteLemmas
-mod FaultLemmas
-mod FrontLemmas
-mod GoOnLemmas
-mod NumberLemmas
-mod PrintLemmas
-mod PutLemmas
-mod ReadLemmas
-mod SameLemmas
-mod SoundLemmas
-mod TextLaws
-mod Utf8Lemmas
+pub mod AgainLemmas
+pub mod ByteLemmas
+pub mod CompleteLemmas
+pub mod FaultLemmas
+pub mod FrontLemmas
+pub mod GoOnLemmas
+pub mod NumberLemmas
+pub mod PrintLemmas
+pub mod PutLemmas
+pub mod ReadLemmas
+pub mod SameLemmas
+pub mod SoundLemmas
+pub mod TextLaws
+pub mod Utf8Lemmas

@@ -54,3 +54,8 @@ abbrev mutual
 -- a value without its places
 unfoldable pub tree_of : Sexp → Tree
 tree_of s = tree_of_node s.node
+
+-- values without their places
+abbrev pub trees_of : List Sexp → Trees
+trees_of [] = Nil
+trees_of (x ∷ xs) = Cons (tree_of_node x.node) (trees_of xs)

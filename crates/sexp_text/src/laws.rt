@@ -20,6 +20,11 @@ pub fn printed_again()
         (again : Sexp) × SexpSpells (printed s) again × (tree_of again ≡ tree_of s) }
 {}
 
+/// Values that differ in their places alone are printed alike.
+pub fn printed_alike()
+    ensures { (s t : Sexp) → tree_of s ≡ tree_of t → printed s ≡ printed t }
+{}
+
 /// A fault stands where the longest reading stops.
 pub fn longest_reading()
     // The text before a fault other than `end` can go on to spell a value.
