@@ -1,8 +1,10 @@
 -- The text before a fault can go on to spell a value.
 use Rattle.std.proofs.Common.{◌≡◌, ℕ, zero, suc, ℤ, ◌+◌, ◌*◌, ◌<◌, Bool, true, false, cond, eqb, ltb, ◌⊎◌, inl, inr, ⊎_elim, List, [], ◌∷◌, ◌++◌, length, take, get_or, Option, Some, None, Result, Ok, Err, refl, sym, ap, ◌∙◌, subst, append_assoc, length-append, arith}
 use Rattle.std.proofs.lemmas.Bool.{eqb-true}
-use Rattle.std.proofs.lemmas.List.{take-append-le}
+use Rattle.std.proofs.lemmas.Bool.Decides.{nat_tests}
+use Rattle.std.proofs.lemmas.List.{append-nil, take-append-le}
 use Rattle.std.proofs.Math.Seq.{take-append_seam, take-append-add}
+use Rattle.std.specs.Char.{digit_char}
 use Rattle.std.specs.Option.{option_map}
 use Rattle.std.specs.Str.{is_utf8}
 use Rattle.std.specs.List.{AllByRecursion, prefix_len}
@@ -21,14 +23,14 @@ use Rattle.sexp_text.specs.Bytes.{is_white, is_letter, is_name_byte, is_sign, is
 use Rattle.sexp_text.specs.Items.{Item, Open, Number, Name, items_of}
 use Rattle.sexp_text.specs.Reading.{◌>>=◌, refused, begins_number, number_of, word_end, ok_or_fault, run_items, string_items, Front, Before, Inside, After, opened, closed, begun, added, with_mode, with_items, between, in_string, begins_escape, first_digit, second_digit, step, finish, read_from, read}
 use Rattle.sexp_text.specs.Spelling.{EndsRun, IsWord}
-use Rattle.sexp_text.specs.Faults.{IsNoEnd, place_of, CanGoOn}
+use Rattle.sexp_text.specs.Faults.{IsNoEnd, place_of, CanGoOn, IsCut}
 use Rattle.sexp_text.specs.Fronts.{front_of}
 use Rattle.sexp_text.proofs.ByteLemmas.{word_end-le}
 use Rattle.sexp_text.proofs.FaultLemmas.{end_fault}
 use Rattle.sexp_text.proofs.FrontLemmas.{open-before, open-inside, open-after, close-last, close-inside, close-before, close-after, add-inside}
 use Rattle.sexp_text.proofs.NumberLemmas.{run_writes, writes_word, word_items}
 use Rattle.sexp_text.proofs.PutLemmas.{bound, opened_room}
-use Rattle.sexp_text.proofs.ReadLemmas.{AreRun, go_on, go_on-mode, step_open, step_close, place, run_read}
+use Rattle.sexp_text.proofs.ReadLemmas.{AreRun, go_on, go_on-mode, step_open, step_close, step_line_feed, place, run_read, digit_of, step_second}
 use Rattle.sexp_text.proofs.SoundLemmas.{begun_next, with_mode_next, string_item, spelled-read}
 
 -- what is reached after some bytes
@@ -325,6 +327,24 @@ run_fault_goes text run more front fault r real inside bytes e =
 
 -- what is known while a text is read
 
+-- some escape has this first digit
+abbrev Escapes : ℕ → Type 0
+Escapes high = (low : ℕ) × (low < 16) × (is_plain (16 * high + low) ≡ false)
+
+last_digit : ℕ → ℕ
+last_digit high = cond (eqb high 2) 2 (cond (eqb high 5) 12 (cond (eqb high 7) 15 0))
+
+last_digit_small : (high : ℕ) → last_digit high < 16
+unfolding last_digit
+last_digit_small high = grind (arith, nat_tests)
+
+last_digit_escapes : (b : ℕ) → begins_escape b ≡ true → is_plain (16 * hex_value b + last_digit (hex_value b)) ≡ false
+unfolding last_digit begins_escape hex_value is_plain
+last_digit_escapes b h = grind (arith, nat_tests)
+
+escapes : (b : ℕ) → begins_escape b ≡ true → Escapes (hex_value b)
+escapes b h = (last_digit (hex_value b), last_digit_small (hex_value b), last_digit_escapes b h)
+
 -- a string begins at this place, and the text before it can go on
 abbrev InString : List ℕ → ℕ → Type 0
 InString text from = (before rest : List ℕ) × (text ≡ before ++ rest) × (length before ≡ from) × CanGoOn before
@@ -338,7 +358,7 @@ Known text front Comment = Unit {0}
 Known text front (Run from run) = InRun text from run front × (0 < length run)
 Known text front (Quoted from bytes) = InString text from
 Known text front (Escape from bytes) = InString text from
-Known text front (Digit from bytes high) = InString text from
+Known text front (Digit from bytes high) = InString text from × Escapes high
 
 string_more : (text : List ℕ) (b from : ℕ) → InString text from → InString (text ++ b ∷ []) from
 string_more text b from s = (s.0, s.1 ++ b ∷ [], ap (λ xs. xs ++ b ∷ []) s.2 ∙ append_assoc s.0 s.1 (b ∷ []), s.3, s.4)
@@ -509,11 +529,13 @@ string_known text b from bytes front next real k e = by_quote (eqb b 34) e
 escape_known : (text : List ℕ) (b from : ℕ) (bytes : List ℕ) (front : Front) (next : Front × Mode) → Real front → InString text from →
     step (length text) b front (Escape from bytes) ≡ Ok next → Holds (text ++ b ∷ []) next
 unfolding step first_digit
-escape_known text b from bytes front next real k e = by_first (begins_escape b) e
+escape_known text b from bytes front next real k e = by_first (begins_escape b) refl e
   where
-    by_first : (v : Bool) → cond v (Ok (front, Digit from bytes (hex_value b))) (refused from word.String) ≡ Ok next → Holds (text ++ b ∷ []) next
-    by_first true e = let i : (front, Digit from bytes (hex_value b)) ≡ next = cc in subst (Holds (text ++ b ∷ [])) i (real, string_more text b from k)
-    by_first false e = cc
+    by_first : (v : Bool) → begins_escape b ≡ v → cond v (Ok (front, Digit from bytes (hex_value b))) (refused from word.String) ≡ Ok next → Holds (text ++ b ∷ []) next
+    by_first true t e =
+        let i : (front, Digit from bytes (hex_value b)) ≡ next = cc in
+        subst (Holds (text ++ b ∷ [])) i (real, (string_more text b from k, escapes b t))
+    by_first false t e = cc
 
 digit_known : (text : List ℕ) (b from : ℕ) (bytes : List ℕ) (high : ℕ) (front : Front) (next : Front × Mode) → Real front → InString text from →
     step (length text) b front (Digit from bytes high) ≡ Ok next → Holds (text ++ b ∷ []) next
@@ -538,7 +560,7 @@ step_known text b front Comment next r h e = comment_known text b front next h.0
 step_known text b front (Run from run) next r h e = run_known text b from run front next h.0 h.1 e
 step_known text b front (Quoted from bytes) next r h e = string_known text b from bytes front next h.0 h.1 e
 step_known text b front (Escape from bytes) next r h e = escape_known text b from bytes front next h.0 h.1 e
-step_known text b front (Digit from bytes high) next r h e = digit_known text b from bytes high front next h.0 h.1 e
+step_known text b front (Digit from bytes high) next r h e = digit_known text b from bytes high front next h.0 h.1.0 e
 
 -- the faults that a step may have
 
@@ -696,7 +718,7 @@ step_goes text rest b front (Quoted from bytes) fault r h e =
 step_goes text rest b front (Escape from bytes) fault r h e =
     string_goes text rest from fault h.1 (errs_at (Stops from) (first_digit b from bytes front) fault (first_digit_errs b from bytes front) (sym (step_escape (length text) b from bytes front) ∙ e)).0
 step_goes text rest b front (Digit from bytes high) fault r h e =
-    string_goes text rest from fault h.1 (errs_at (Stops from) (second_digit b from bytes high front) fault (second_digit_errs b from bytes high front) (sym (step_digit (length text) b from bytes high front) ∙ e)).0
+    string_goes text rest from fault h.1.0 (errs_at (Stops from) (second_digit b from bytes high front) fault (second_digit_errs b from bytes high front) (sym (step_digit (length text) b from bytes high front) ∙ e)).0
 
 end_goes : (text : List ℕ) (front : Front) (mode : Mode) (fault : TextFault) → Holds text (front, mode) → finish (length text) front mode ≡ Err fault → IsNoEnd fault →
     CanGoOn (take (place_of fault) (text ++ []))
@@ -796,3 +818,105 @@ end_at (b ∷ bs) at p front mode e = by_step (step p b front mode) (step_errs p
 pub end_of_text : (text : List ℕ) (at : ℕ) → read text ≡ Err (Refused at word.End) → at ≡ length text
 unfolding read
 end_of_text text at e = let there = end_at text at 0 Before Between e in omega (arith, there)
+
+-- a text that ends too early can be mended
+
+cut_by : (text : List ℕ) (b : ℕ) → IsCut (text ++ b ∷ []) → IsCut text
+cut_by text b c =
+    (b ∷ c.0, subst (λ bs. CanGoOn bs ⊎ ((from : ℕ) × (read bs ≡ refused from word.Utf8))) (append_assoc text (b ∷ []) c.0) c.1)
+
+cut_here : (text : List ℕ) → CanGoOn text → IsCut text
+cut_here text h = ([], inl (subst CanGoOn (sym (append-nil text)) h))
+
+string_items_fault : (from : ℕ) (bytes : List ℕ) → Errs (λ f. f ≡ Refused from word.Utf8) (string_items from bytes)
+unfolding string_items
+string_items_fault from bytes = cond_errs (λ f. f ≡ Refused from word.Utf8) (is_utf8 bytes) _ _ tt refl
+
+ends : (from : ℕ) (bytes : List ℕ) (xs : List Item) (front : Front) → string_items from bytes ≡ Ok xs → in_string 34 from bytes front ≡ Ok (added xs front, Between)
+unfolding in_string
+ends from bytes xs front e = rw e refl
+
+fails : (from : ℕ) (bytes : List ℕ) (d : TextFault) (front : Front) → string_items from bytes ≡ Err d → in_string 34 from bytes front ≡ Err d
+unfolding in_string
+fails from bytes d front e = rw e refl
+
+zero_digit : (p from : ℕ) (bytes : List ℕ) (front : Front) → step p 48 front (Escape from bytes) ≡ Ok (front, Digit from bytes 0)
+unfolding step first_digit begins_escape hex_value
+zero_digit p from bytes front = refl
+
+string_cut : (text : List ℕ) (from : ℕ) (bytes : List ℕ) (front : Front) → Reach text front (Quoted from bytes) → Holds text (front, Quoted from bytes) → IsCut text
+string_cut text from bytes front r h = by_items (string_items from bytes) refl (string_items_fault from bytes)
+  where
+    by_items : (r : Result (List Item) TextFault) → string_items from bytes ≡ r → Errs (λ f. f ≡ Refused from word.Utf8) r → IsCut text
+    by_items (Ok xs) i u =
+        let closes_it : step (length text) 34 front (Quoted from bytes) ≡ Ok (added xs front, Between) = step_string (length text) 34 from bytes front ∙ ends from bytes xs front i in
+        cut_by text 34 (cut_here (text ++ 34 ∷ [])
+        (between_goes (text ++ 34 ∷ []) (added xs front) (reach_more text 34 front (Quoted from bytes) (added xs front, Between) r closes_it)
+        (step_known text 34 front (Quoted from bytes) (added xs front, Between) r h closes_it).0))
+    by_items (Err d) i u = (
+      34 ∷ [],
+      inr (
+        from,
+        reach_read text (34 ∷ []) front (Quoted from bytes) r ∙
+            ap (go_on (length text + 1) []) (step_string (length text) 34 from bytes front ∙ fails from bytes (Refused from word.Utf8) front (i ∙ ap (λ f. Err f) u)),
+      ),
+    )
+
+digit_cut : (text : List ℕ) (from : ℕ) (bytes : List ℕ) (high : ℕ) (front : Front) → Reach text front (Digit from bytes high) → Holds text (front, Digit from bytes high) → IsCut text
+digit_cut text from bytes high front r h =
+    let low = h.1.1.0 in
+    let d = digit_of low h.1.1.1 in
+    let next : Front × Mode = (front, Quoted from (bytes ++ (16 * high + low) ∷ [])) in
+    let e : step (length text) (digit_char low) front (Digit from bytes high) ≡ Ok next =
+    step_second (length text) high low (16 * high + low) from bytes front d.0 d.1 refl h.1.1.2 in
+    cut_by text (digit_char low)
+    (string_cut (text ++ digit_char low ∷ []) from (bytes ++ (16 * high + low) ∷ []) front (reach_more text (digit_char low) front (Digit from bytes high) next r e)
+    (step_known text (digit_char low) front (Digit from bytes high) next r h e))
+
+escape_cut : (text : List ℕ) (from : ℕ) (bytes : List ℕ) (front : Front) → Reach text front (Escape from bytes) → Holds text (front, Escape from bytes) → IsCut text
+escape_cut text from bytes front r h =
+    let next : Front × Mode = (front, Digit from bytes 0) in
+    let e : step (length text) 48 front (Escape from bytes) ≡ Ok next = zero_digit (length text) from bytes front in
+    cut_by text 48
+    (digit_cut (text ++ 48 ∷ []) from bytes 0 front (reach_more text 48 front (Escape from bytes) next r e) (step_known text 48 front (Escape from bytes) next r h e))
+
+comment_cut : (text : List ℕ) (front : Front) → Reach text front Comment → Holds text (front, Comment) → IsCut text
+comment_cut text front r h =
+    let e = step_line_feed (length text) front in
+    cut_by text 10 (cut_here (text ++ 10 ∷ []) (between_goes (text ++ 10 ∷ []) front (reach_more text 10 front Comment (front, Between) r e) h.0))
+
+end_cut : (text : List ℕ) (at : ℕ) (front : Front) (mode : Mode) → Reach text front mode → Holds text (front, mode) → finish (length text) front mode ≡ Err (Refused at word.End) → IsCut text
+unfolding finish
+end_cut text at front Between r h e = cut_here text (between_goes text front r h.0)
+end_cut text at front Comment r h e = comment_cut text front r h
+end_cut text at front (Run from run) r h e = by_items (run_items from run) refl (run_items_errs from run) e
+  where
+    by_items : (r : Result (List Item) TextFault) → run_items from run ≡ r → Errs IsNoEnd r → ◌≡◌ {A = Result (List Item) TextFault} (with_items front r >>= λ f. refused (length text) word.End) (Err (Refused at word.End)) → IsCut text
+    by_items (Ok xs) i n e = cut_here text (whole_run_goes text from run front xs h.0 h.1.0 h.1.1 i)
+    by_items (Err d) i n e = absurd (errs_at IsNoEnd (Err d) (Refused at word.End) n e refl)
+end_cut text at front (Quoted from bytes) r h e = string_cut text from bytes front r h
+end_cut text at front (Escape from bytes) r h e = escape_cut text from bytes front r h
+end_cut text at front (Digit from bytes high) r h e = digit_cut text from bytes high front r h
+
+cut : (rest text : List ℕ) (at : ℕ) (front : Front) (mode : Mode) → Reach text front mode → Holds text (front, mode) →
+    read_from (length text) rest front mode ≡ Err (Refused at word.End) → IsCut (text ++ rest)
+cut [] text at front mode r h e = subst IsCut (sym (append-nil text)) (end_cut text at front mode r h e)
+cut (b ∷ bs) text at front mode r h e =
+    by_step (step (length text) b front mode) refl (step_errs (length text) b front mode) (λ next r2 h2 e2. cut bs (text ++ b ∷ []) at next.0 next.1 r2 h2 e2) e
+  where
+    by_step : (s : Result (Front × Mode) TextFault) → step (length text) b front mode ≡ s → Errs IsNoEnd s →
+        ((next : Front × Mode) → Reach (text ++ b ∷ []) next.0 next.1 → Holds (text ++ b ∷ []) next → read_from (length (text ++ b ∷ [])) bs next.0 next.1 ≡ Err (Refused at word.End) →
+        IsCut ((text ++ b ∷ []) ++ bs)) →
+        go_on (length text + 1) bs s ≡ Err (Refused at word.End) → IsCut (text ++ b ∷ bs)
+    by_step (Ok next) i n more e =
+        let longer : length (text ++ b ∷ []) ≡ length text + 1 = omega (arith, length-append text (b ∷ [])) in
+        subst IsCut (append_assoc text (b ∷ []) bs)
+        (more next (reach_more text b front mode next r i) (step_known text b front mode next r h i) (place _ _ bs next.0 next.1 longer ∙ e))
+    by_step (Err d) i n more e = absurd (errs_at IsNoEnd (errors d) (Refused at word.End) n e refl)
+      where
+        errors : TextFault → Result (List Item) TextFault
+        errors d = Err d
+
+pub text_cut : (text : List ℕ) (at : ℕ) → read text ≡ Err (Refused at word.End) → IsCut text
+unfolding read
+text_cut text at e = cut text [] at Before Between refl ((progress.Before, front_before), tt) e

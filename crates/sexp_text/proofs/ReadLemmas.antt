@@ -152,7 +152,7 @@ step_backslash : (p from : ℕ) (bytes : List ℕ) (front : Front) → step p 92
 unfolding step in_string
 step_backslash p from bytes front = refl
 
-digit_of : (d : ℕ) → d < 16 → (is_hex (digit_char d) ≡ true) × (hex_value (digit_char d) ≡ d)
+pub digit_of : (d : ℕ) → d < 16 → (is_hex (digit_char d) ≡ true) × (hex_value (digit_char d) ≡ d)
 unfolding is_hex hex_value
 digit_of d h = (grind (arith, nat_tests), grind (arith, nat_tests))
 
@@ -165,7 +165,7 @@ step_first : (p d from : ℕ) (bytes : List ℕ) (front : Front) → begins_esca
 unfolding step first_digit
 step_first p d from bytes front h e = rw (h, e) refl
 
-step_second : (p d l b from : ℕ) (bytes : List ℕ) (front : Front) → is_hex (digit_char l) ≡ true → hex_value (digit_char l) ≡ l → 16 * d + l ≡ b → is_plain b ≡ false →
+pub step_second : (p d l b from : ℕ) (bytes : List ℕ) (front : Front) → is_hex (digit_char l) ≡ true → hex_value (digit_char l) ≡ l → 16 * d + l ≡ b → is_plain b ≡ false →
     step p (digit_char l) front (Digit from bytes d) ≡ Ok (front, Quoted from (bytes ++ b ∷ []))
 unfolding step second_digit
 step_second p d l b from bytes front h e eb n = rw (h, e, eb, n) refl

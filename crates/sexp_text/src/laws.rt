@@ -6,7 +6,7 @@ ghost use Rattle.sexp_text.specs.declared.sexp.Sexp.{Sexp};
 ghost use Rattle.sexp_text.specs.Reading.{read, refused, word_end};
 ghost use Rattle.sexp_text.specs.Spelling.{SexpSpells, IsWord};
 ghost use Rattle.sexp_text.specs.Printing.{printed, tree_of};
-ghost use Rattle.sexp_text.specs.Faults.{IsNoEnd, CanGoOn, place_of};
+ghost use Rattle.sexp_text.specs.Faults.{IsNoEnd, IsCut, CanGoOn, place_of};
 ghost use Rattle.sexp_text.specs.declared.fault.TextWord.TheVariants.{End};
 
 /// A text spells at most one value.
@@ -35,8 +35,10 @@ pub fn longest_reading()
     ensures stays { (text more : List ℕ) (fault : TextFault) → read text ≡ Err fault → IsNoEnd fault →
         read (text ++ more) ≡ Err fault }
 
-    // The place of `end` is the text's length.
+    // The place of `end` is the text's length, and with more bytes the text goes on to spell a value, or to a whole
+    // string that is no UTF-8.
     ensures end { (text : List ℕ) (at : ℕ) → read text ≡ refused at End → at ≡ length text }
+    ensures cut { (text : List ℕ) (at : ℕ) → read text ≡ refused at End → IsCut text }
 {}
 
 /// A run that is no word is refused after its longest front that is one.

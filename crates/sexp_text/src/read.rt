@@ -1,6 +1,6 @@
 // Reading a whole text.
 
-ghost use Rattle.std.specs.Prelude.{◌≡◌, ◌++◌, ℕ, List, Ok, IfOk};
+ghost use Rattle.std.specs.Prelude.{◌≡◌, ℕ, List, Ok, IfOk};
 ghost use Rattle.sexp_text.specs.declared.sexp.Sexp.{Sexp};
 ghost use Rattle.sexp_text.specs.Items.{items_of};
 ghost use Rattle.sexp_text.specs.Reading.{Gives, read};

@@ -109,7 +109,7 @@ impl Progress {
         }
     }
 
-    /// A number, a word or a string of the innermost open list.
+    /// A number, a word or a string of the innermost open list. Outside of the list it changes nothing.
     pub(crate) fn add(self, part: Sexp) -> Result<Progress, TextFault>
         ensures { Gives front_of result (Ok (added (items_of part) (front_of self))) }
     {
