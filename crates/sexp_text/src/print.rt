@@ -1,9 +1,8 @@
 // Printing a value as its one text.
 
-ghost use Rattle.std.specs.Prelude.{◌≡◌, ◌++◌, ◌∷◌, [], ◌<◌, IfOk, OnOk};
+ghost use Rattle.std.specs.Prelude.{◌≡◌, ◌++◌, ◌<◌, IfOk, OnOk};
 ghost use Rattle.std.specs.Char.{digit_char};
 ghost use Rattle.std.specs.Fmt.{signed_decimal};
-ghost use Rattle.std.specs.List.{flat_map};
 ghost use Rattle.sexp_text.specs.Spelling.{string_byte, quoted};
 ghost use Rattle.sexp_text.specs.Printing.{printed, printed_node};
 ghost use Rattle.sexp_text.specs.Parts.{printed_parts};

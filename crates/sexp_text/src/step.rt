@@ -1,7 +1,7 @@
 // Reading one more byte.
 
-ghost use Rattle.std.specs.Prelude.{◌≡◌, ℕ, ◌+◌, ◌<◌, ◌^◌, IfOk, IsTrue, length};
-ghost use Rattle.sexp_text.specs.Reading.{Gives, between, begun, in_string, first_digit, second_digit, step, finish, string_items, run_items, with_items, with_mode};
+ghost use Rattle.std.specs.Prelude.{◌≡◌, ℕ, ◌+◌, ◌<◌, ◌^◌, IfOk};
+ghost use Rattle.sexp_text.specs.Reading.{Gives, between, begun, in_string, first_digit, second_digit, step, finish};
 ghost use Rattle.sexp_text.specs.Items.{items_of};
 ghost use Rattle.sexp_text.specs.Fronts.{front_of, seen, Stands};
 
