@@ -1,0 +1,14 @@
+pub mod AgainLemmas
+pub mod ByteLemmas
+pub mod CompleteLemmas
+pub mod FaultLemmas
+pub mod FrontLemmas
+pub mod GoOnLemmas
+pub mod NumberLemmas
+pub mod PrintLemmas
+pub mod PutLemmas
+pub mod ReadLemmas
+pub mod SameLemmas
+pub mod SoundLemmas
+pub mod TextLaws
+pub mod Utf8Lemmas

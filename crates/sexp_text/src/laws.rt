@@ -1,0 +1,48 @@
+// The laws of texts: what is said of them by the definitions alone.
+
+ghost use Rattle.std.specs.Prelude.{◌≡◌, ◌≤◌, ◌⊎◌, ◌++◌, ℕ, List, Err, length, take};
+ghost use Rattle.sexp_text.specs.declared.fault.TextFault.{TextFault};
+ghost use Rattle.sexp_text.specs.declared.sexp.Sexp.{Sexp};
+ghost use Rattle.sexp_text.specs.Reading.{read, refused, word_end};
+ghost use Rattle.sexp_text.specs.Spelling.{SexpSpells, IsWord};
+ghost use Rattle.sexp_text.specs.Printing.{printed, tree_of};
+ghost use Rattle.sexp_text.specs.Faults.{IsNoEnd, IsCut, CanGoOn, place_of};
+ghost use Rattle.sexp_text.specs.declared.fault.TextWord.TheVariants.{End};
+
+/// A text spells at most one value.
+pub fn one_value()
+    ensures { (text : List ℕ) (s t : Sexp) → SexpSpells text s → SexpSpells text t → s ≡ t }
+{}
+
+/// The printed text of a value that some text spells, spells that value, up to its places.
+pub fn printed_again()
+    ensures { (text : List ℕ) (s : Sexp) → SexpSpells text s →
+        (again : Sexp) × SexpSpells (printed s) again × (tree_of again ≡ tree_of s) }
+{}
+
+/// Values that differ in their places alone are printed alike.
+pub fn printed_alike()
+    ensures { (s t : Sexp) → tree_of s ≡ tree_of t → printed s ≡ printed t }
+{}
+
+/// A fault stands where the longest reading stops.
+pub fn longest_reading()
+    // The text before a fault other than `end` can go on to spell a value.
+    ensures before { (text : List ℕ) (fault : TextFault) → read text ≡ Err fault → IsNoEnd fault →
+        CanGoOn (take (place_of fault) text) }
+
+    // A fault other than `end` stays, whatever follows the text.
+    ensures stays { (text more : List ℕ) (fault : TextFault) → read text ≡ Err fault → IsNoEnd fault →
+        read (text ++ more) ≡ Err fault }
+
+    // The place of `end` is the text's length, and with more bytes the text goes on to spell a value, or to a whole
+    // string that is no UTF-8.
+    ensures end { (text : List ℕ) (at : ℕ) → read text ≡ refused at End → at ≡ length text }
+    ensures cut { (text : List ℕ) (at : ℕ) → read text ≡ refused at End → IsCut text }
+{}
+
+/// A run that is no word is refused after its longest front that is one.
+pub fn longest_word()
+    ensures word { (run : List ℕ) → (word_end run ≡ 0) ⊎ IsWord (take (word_end run) run) }
+    ensures longest { (word rest : List ℕ) → IsWord word → length word ≤ word_end (word ++ rest) }
+{}
