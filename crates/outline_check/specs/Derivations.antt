@@ -14,12 +14,13 @@ use Rattle.outline_check.specs.declared.state.Fact.{Fact}
 use Rattle.outline_check.specs.declared.state.Fact.TheVariants.{Equal, AtMost}
 use Rattle.outline_check.specs.States.{fact_of}
 
--- Whether two terms, or two facts, are the same tree.
+-- Whether two terms are the same tree.
 abbrev pub same_term : Term → Term → Bool
 same_term (Number a) (Number b) = int_eq a b
 same_term (Variable v) (Variable w) = nat_eq v w
 same_term _ _ = false
 
+-- Whether two facts are the same tree.
 unfoldable pub same_fact : Fact → Fact → Bool
 same_fact (Equal a b) (Equal c d) = same_term a c && same_term b d
 same_fact (AtMost a b) (AtMost c d) = same_term a c && same_term b d
@@ -60,6 +61,7 @@ bad_from globals hyps goal earlier (step ∷ steps) =
     then bad_from globals hyps goal (earlier ++ fact_of globals step.formula ∷ []) steps
     else Some (length earlier)
 
+-- The same from the first step on: the number K of a derivation that is refused.
 abbrev pub first_bad : List Term → List Fact → Fact → List Step → Option ℕ
 first_bad globals hyps goal steps = bad_from globals hyps goal [] steps
 

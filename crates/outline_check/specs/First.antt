@@ -61,11 +61,12 @@ pub record IsFirstFunc (types globals : ℕ) (func : Func) : Type 0 where
   pub locals : func.locals ≡ []
   pub body : IsFirstBody globals 0 func.body
 
--- An export is a function that exists (Core 2.5.10).
+-- What is exported is a function that exists (Core 2.5.10).
 abbrev pub IsFunction : ℕ → ExportKind → Type 0
 IsFunction funcs (kind.Func f) = f < funcs
 IsFunction funcs _ = ⊥
 
+-- An export has a name of bytes and is such a function (Core 2.5.10).
 pub record IsFirstExport (funcs : ℕ) (export : Export) : Type 0 where
   pub name : AreBytes export.name
   pub kind : IsFunction funcs export.kind

@@ -60,11 +60,12 @@ entailed formulas numbers s =
     and_then (test_for reason.Use (nat_eq (length numbers) (length formulas)))
     (λ _. test_for reason.Fact (are_facts s numbers formulas))
 
--- What a note gives, if there is one.
+-- The moves of a note, if there is one.
 abbrev pub moves_of : Option Note → List Move
 moves_of None = []
 moves_of (Some note) = note.moves
 
+-- The use of a note; without a note there is none.
 abbrev pub use_of : Option Note → Use
 use_of None = Nothing
 use_of (Some note) = note.used

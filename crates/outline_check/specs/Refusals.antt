@@ -29,19 +29,21 @@ abbrev pub test_for : Reason → Bool → Result (Unit {0}) Why
 test_for reason true = Ok tt
 test_for reason false = Err (why.Reason reason)
 
--- What is refused has the place, and the function where one is meant.
+-- A result with its place, where it is a refusal.
 abbrev pub placed : {A : Type 0} → ℕ → Option ℕ → Result A Why → Result A Refusal
 placed at function (Ok a) = Ok a
 placed at function (Err reason) = Err (record { at = at; function = function; why = reason })
 
--- The outline by the tests of a whole module.
+-- What a refusal at a place says of the outline.
 abbrev pub failed_by : ℕ → Option ℕ → Why → Outline
 failed_by at function (why.Reason reason) = Failed at function reason
 failed_by at function (why.Limit word) = Limit at word
 
+-- The same of a refusal with its place.
 abbrev pub failed : Refusal → Outline
 failed refusal = failed_by refusal.at refusal.function refusal.why
 
+-- The outline by the tests of a whole module.
 abbrev pub answered : Result (Unit {0}) Refusal → Outline
 answered (Ok _) = Verified
 answered (Err refusal) = failed refusal
