@@ -1,0 +1,5 @@
+pub mod Loop
+pub mod PartLaws
+pub mod EntryLaws
+pub mod InstrLaws
+pub mod ModuleLaws
