@@ -1,0 +1,5 @@
+pub mod First
+pub mod Refusals
+pub mod States
+pub mod Derivations
+pub mod Outlines
