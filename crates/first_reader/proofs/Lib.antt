@@ -3,3 +3,4 @@ pub mod PartLaws
 pub mod EntryLaws
 pub mod InstrLaws
 pub mod ModuleLaws
+pub mod TreeLaws

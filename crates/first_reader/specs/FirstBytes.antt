@@ -132,10 +132,9 @@ abbrev pub places : {A : Type 0} → (A → List ℕ) → ℕ → List A → Lis
 places spell at [] = []
 places spell at (x ∷ xs) = at ∷ places spell (at + length (spell x)) xs
 
--- The places of a body's instructions, its `end` included.
+-- The places of a body's instructions, and that of its `end`.
 abbrev pub instr_places : ℕ → List Instr → List ℕ
-instr_places at [] = at ∷ []
-instr_places at (instr ∷ instrs) = at ∷ instr_places (at + length (instr_bytes instr)) instrs
+instr_places at instrs = places instr_bytes at instrs ++ (at + length (flat_map instr_bytes instrs)) ∷ []
 
 -- Those of each function, where the first code entry stands at `at`: two bytes stand before its instructions.
 abbrev pub code_places : ℕ → List Func → List (List ℕ)

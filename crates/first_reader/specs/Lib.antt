@@ -1,3 +1,5 @@
 pub mod FirstBytes
 pub mod Reading
 pub mod ReadingModule
+pub mod Trees
+pub mod First

@@ -4,7 +4,11 @@
 mod bytes;
 mod entry;
 mod error;
+mod first;
 mod instrs;
+mod marks;
 mod module;
+mod tree;
 
 pub use error::ReadError;
+pub use first::read_module;
