@@ -4,3 +4,6 @@ pub mod EntryLaws
 pub mod InstrLaws
 pub mod ModuleLaws
 pub mod TreeLaws
+pub mod NumeralLaws
+pub mod LexemeLaws
+pub mod ManyLaws

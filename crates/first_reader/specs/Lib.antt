@@ -3,3 +3,7 @@ pub mod Reading
 pub mod ReadingModule
 pub mod Trees
 pub mod First
+pub mod Lexemes
+pub mod ReadingLexemes
+pub mod FirstNotes
+pub mod ReadingNotes

@@ -8,6 +8,10 @@ mod first;
 mod instrs;
 mod marks;
 mod module;
+mod notes;
+mod numeral;
+mod part;
+mod text;
 mod tree;
 
 pub use error::ReadError;
