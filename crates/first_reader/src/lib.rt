@@ -16,3 +16,4 @@ mod tree;
 
 pub use error::ReadError;
 pub use first::read_module;
+pub use notes::read_notes;
