@@ -7,3 +7,5 @@ pub mod TreeLaws
 pub mod NumeralLaws
 pub mod LexemeLaws
 pub mod ManyLaws
+pub mod NoteParts
+pub mod NoteLaws
