@@ -172,3 +172,10 @@ body_short is small =
     let short = flat_short is small in
     (omega (arith, short.0, length-append (flat is) (End ∷ []), length-append (flat_map instr_bytes is) (11 ∷ [])),
      omega (arith, short.1, length-append (flat_map instr_bytes is) (11 ∷ [])))
+
+-- a body has as many items as instructions
+pub flat_length : (is : List Instr) → AreSmallInstrs is → length (flat is) ≡ length is
+flat_length [] small = refl
+flat_length (i ∷ is) small =
+    let one = flat_small i small.0 in
+    rw (flat_map-cons flat_of i is) (omega (arith, one.0, flat_length is small.1, length-append (flat_of i) (flat is)))

@@ -3,6 +3,7 @@ use Rattle.std.proofs.Common.{◌≡◌, ℕ, zero, suc, ◌+◌, ◌-◌, ◌�
 use Rattle.std.specs.Prelude.{IfOk, sum_by}
 use Rattle.std.proofs.lemmas.List.{append-nil}
 use Rattle.std.proofs.lemmas.Bool.{lt-ltb, ltb-true, ltb-false, le-ltb, le-leb, leb-true, eqb-true}
+use Rattle.std.proofs.lemmas.List.Sums.{sum_by-cons}
 use Rattle.std.proofs.lemmas.Slice.Eq.{bytes_eq-Decides}
 use Rattle.std.specs.Str.{bytes_eq}
 use Rattle.std.specs.List.{flat_map, AllByRecursion}
@@ -309,3 +310,174 @@ func_again f rest good =
 
 pub reads_funcs : ReadsParts opens func_at func_parts IsFuncNotes
 reads_funcs = record { takes = func_takes; again = func_again; begun = λ f rest. refl; some = λ f. omega arith }
+
+-- ---- all of the notes
+
+only_takes : (n : ℕ) (parts rest : S) → only_at n parts ≡ Some rest → parts ≡ Number (pos n) ∷ rest
+only_takes n parts rest e =
+    let a = bind_some (u32_at parts) (λ k. cond (eqb k.0 n) (Some k.1) None) rest e in
+    let p = passed (eqb a.0.0 n) a.0.1 rest a.2 in
+    let same : a.0.0 ≡ n = eqb-true _ _ p.0 in
+    (u32_takes parts a.0 a.1).0 ∙ ap (λ k. Number (pos k) ∷ a.0.1) same ∙ ap (λ (r : S). Number (pos n) ∷ r) p.1
+
+only_again : (n : ℕ) (rest : S) → IsNatural n → only_at n (Number (pos n) ∷ rest) ≡ Some rest
+only_again n rest good = rw (u32_again n rest good, eq-eqb n n refl) refl
+
+assertion_spelled : (a : Assertion) (rest : S) → assertion_parts a ++ rest ≡ Open ∷ Word (codes "assert") ∷ Number (pos 0) ∷ Open ∷ (flat_map formula_parts a.formulas ++ (Close ∷ Open ∷ Close ∷ Close ∷ rest))
+assertion_spelled a rest = simp append_assoc
+
+assertion_takes : (parts : S) (x : Assertion × S) → assertion_at parts ≡ Some x → (parts ≡ assertion_parts x.0 ++ x.1) × AllByRecursion IsNoteFormula x.0.formulas
+unfolding assertion_at
+assertion_takes parts x e =
+    let a = bind_some (head_at (codes "assert") parts) (λ inside. only_at 0 inside >>= λ own. list_at opens formula_at own >>= λ formulas. empty_at formulas.1 >>= λ chunks. close_at chunks >>= λ rest. Some (record { formulas = formulas.0 }, rest)) x e in
+    let b = bind_some (only_at 0 a.0) (λ own. list_at opens formula_at own >>= λ formulas. empty_at formulas.1 >>= λ chunks. close_at chunks >>= λ rest. Some (record { formulas = formulas.0 }, rest)) x a.2 in
+    let c = bind_some (list_at opens formula_at b.0) (λ formulas. empty_at formulas.1 >>= λ chunks. close_at chunks >>= λ rest. Some (record { formulas = formulas.0 }, rest)) x b.2 in
+    let d = bind_some (empty_at c.0.1) (λ chunks. close_at chunks >>= λ rest. Some (record { formulas = c.0.0 }, rest)) x c.2 in
+    let f = bind_some (close_at d.0) (λ rest. Some (record { formulas = c.0.0 }, rest)) x d.2 in
+    let made : Assertion = record { formulas = c.0.0 } in
+    let l = list_takes opens formula_at formula_parts IsNoteFormula reads_formulas b.0 c.0 c.1 in
+    let whole : parts ≡ assertion_parts made ++ f.0 =
+        head_takes (codes "assert") parts a.0 a.1 ∙ ap (λ (r : S). Open ∷ Word (codes "assert") ∷ r) (only_takes 0 a.0 b.0 b.1 ∙ ap (λ (r : S). Number (pos 0) ∷ r) (l.0 ∙ ap (λ (r : S). Open ∷ (flat_map formula_parts c.0.0 ++ (Close ∷ r))) (empty_takes c.0.1 d.0 d.1 ∙ ap (λ (r : S). Open ∷ Close ∷ r) (close_takes d.0 f.0 f.1)))) ∙ sym (assertion_spelled made f.0) in
+    subst (λ (y : Assertion × S). (parts ≡ assertion_parts y.0 ++ y.1) × AllByRecursion IsNoteFormula y.0.formulas) (some_is (made, f.0) x f.2) (whole, l.1)
+
+assertion_again : (a : Assertion) (rest : S) → AllByRecursion IsNoteFormula a.formulas → assertion_at (assertion_parts a ++ rest) ≡ Some (a, rest)
+unfolding assertion_at
+assertion_again a rest good =
+    let chunks : S = Open ∷ Close ∷ Close ∷ rest in
+    let formulas : S = Open ∷ (flat_map formula_parts a.formulas ++ (Close ∷ chunks)) in
+    ap assertion_at (assertion_spelled a rest) ∙
+    rw (head_again (codes "assert") (Number (pos 0) ∷ formulas), only_again 0 formulas (omega arith), list_again opens formula_at formula_parts IsNoteFormula reads_formulas a.formulas chunks good refl, empty_again (Close ∷ rest)) refl
+
+initial_spelled : (i : Initial) (rest : S) → initial_parts i ++ rest ≡ Open ∷ Word (codes "initial") ∷ Open ∷ Close ∷ Open ∷ (flat_map move_parts i.moves ++ (Close ∷ (with_parts i.with ++ (Close ∷ rest))))
+initial_spelled i rest = simp append_assoc
+
+initial_takes : (parts : S) (x : Initial × S) → initial_at parts ≡ Some x → (parts ≡ initial_parts x.0 ++ x.1) × AllByRecursion IsNoteMove x.0.moves × IsNoteWith x.0.with
+unfolding initial_at
+initial_takes parts x e =
+    let a = bind_some (head_at (codes "initial") parts) (λ inside. empty_at inside >>= λ chunks. list_at moves move_at chunks >>= λ moves. with_at moves.1 >>= λ with. close_at with.1 >>= λ rest. Some (record { moves = moves.0; with = with.0 }, rest)) x e in
+    let b = bind_some (empty_at a.0) (λ chunks. list_at moves move_at chunks >>= λ moves. with_at moves.1 >>= λ with. close_at with.1 >>= λ rest. Some (record { moves = moves.0; with = with.0 }, rest)) x a.2 in
+    let c = bind_some (list_at moves move_at b.0) (λ moves. with_at moves.1 >>= λ with. close_at with.1 >>= λ rest. Some (record { moves = moves.0; with = with.0 }, rest)) x b.2 in
+    let d = bind_some (with_at c.0.1) (λ with. close_at with.1 >>= λ rest. Some (record { moves = c.0.0; with = with.0 }, rest)) x c.2 in
+    let f = bind_some (close_at d.0.1) (λ rest. Some (record { moves = c.0.0; with = d.0.0 }, rest)) x d.2 in
+    let made : Initial = record { moves = c.0.0; with = d.0.0 } in
+    let l = list_takes moves move_at move_parts IsNoteMove reads_moves b.0 c.0 c.1 in
+    let w = with_takes c.0.1 d.0 d.1 in
+    let whole : parts ≡ initial_parts made ++ f.0 =
+        head_takes (codes "initial") parts a.0 a.1 ∙ ap (λ (r : S). Open ∷ Word (codes "initial") ∷ r) (empty_takes a.0 b.0 b.1 ∙ ap (λ (r : S). Open ∷ Close ∷ r) (l.0 ∙ ap (λ (r : S). Open ∷ (flat_map move_parts c.0.0 ++ (Close ∷ r))) (w.0 ∙ ap (λ (r : S). with_parts d.0.0 ++ r) (close_takes d.0.1 f.0 f.1)))) ∙ sym (initial_spelled made f.0) in
+    subst (λ (y : Initial × S). (parts ≡ initial_parts y.0 ++ y.1) × AllByRecursion IsNoteMove y.0.moves × IsNoteWith y.0.with) (some_is (made, f.0) x f.2) (whole, l.1, w.1)
+
+initial_again : (i : Initial) (rest : S) → AllByRecursion IsNoteMove i.moves → IsNoteWith i.with → initial_at (initial_parts i ++ rest) ≡ Some (i, rest)
+unfolding initial_at
+initial_again i rest good fine =
+    let used : S = with_parts i.with ++ (Close ∷ rest) in
+    let ms : S = Open ∷ (flat_map move_parts i.moves ++ (Close ∷ used)) in
+    ap initial_at (initial_spelled i rest) ∙
+    rw (head_again (codes "initial") (Open ∷ Close ∷ ms), empty_again ms, list_again moves move_at move_parts IsNoteMove reads_moves i.moves used good refl, with_again i.with (Close ∷ rest) fine) refl
+
+done_takes : (a : Notes) (parts : S) (b : Notes) → done a parts ≡ Some b → (parts ≡ []) × (a ≡ b)
+done_takes a [] b e = (refl, some_is a b e)
+done_takes a (p ∷ parts) b e = absurd cc
+
+-- notes without their limits
+pub record AreNotes (a : Notes) : Type 0 where
+  pub formulas : AllByRecursion IsNoteFormula a.invariant.formulas
+  pub moves : AllByRecursion IsNoteMove a.initial.moves
+  pub with : IsNoteWith a.initial.with
+  pub funcs : AllByRecursion IsFuncNotes a.funcs
+
+notes_spelled : (a : Notes) → notes_parts a ≡ Open ∷ Word (codes "notes") ∷ Number (pos 1) ∷ (assertion_parts a.invariant ++ (initial_parts a.initial ++ (flat_map func_parts a.funcs ++ (Close ∷ []))))
+notes_spelled a = simp append_assoc
+
+notes_take : (parts : S) (x : Notes) → notes_at parts ≡ Some x → (parts ≡ notes_parts x) × AreNotes x
+unfolding notes_at
+notes_take parts x e =
+    let a = bind_some (head_at (codes "notes") parts) (λ inside. only_at 1 inside >>= λ version. assertion_at version >>= λ invariant. initial_at invariant.1 >>= λ initial. many_at opens func_at initial.1 >>= λ funcs. close_at funcs.1 >>= λ rest. done (record { invariant = invariant.0; initial = initial.0; funcs = funcs.0 }) rest) x e in
+    let b = bind_some (only_at 1 a.0) (λ version. assertion_at version >>= λ invariant. initial_at invariant.1 >>= λ initial. many_at opens func_at initial.1 >>= λ funcs. close_at funcs.1 >>= λ rest. done (record { invariant = invariant.0; initial = initial.0; funcs = funcs.0 }) rest) x a.2 in
+    let c = bind_some (assertion_at b.0) (λ invariant. initial_at invariant.1 >>= λ initial. many_at opens func_at initial.1 >>= λ funcs. close_at funcs.1 >>= λ rest. done (record { invariant = invariant.0; initial = initial.0; funcs = funcs.0 }) rest) x b.2 in
+    let d = bind_some (initial_at c.0.1) (λ initial. many_at opens func_at initial.1 >>= λ funcs. close_at funcs.1 >>= λ rest. done (record { invariant = c.0.0; initial = initial.0; funcs = funcs.0 }) rest) x c.2 in
+    let f = bind_some (many_at opens func_at d.0.1) (λ funcs. close_at funcs.1 >>= λ rest. done (record { invariant = c.0.0; initial = d.0.0; funcs = funcs.0 }) rest) x d.2 in
+    let g = bind_some (close_at f.0.1) (λ rest. done (record { invariant = c.0.0; initial = d.0.0; funcs = f.0.0 }) rest) x f.2 in
+    let made : Notes = record { invariant = c.0.0; initial = d.0.0; funcs = f.0.0 } in
+    let z = done_takes made g.0 x g.2 in
+    let v = assertion_takes b.0 c.0 c.1 in
+    let i = initial_takes c.0.1 d.0 d.1 in
+    let m = many_takes opens func_at func_parts IsFuncNotes reads_funcs d.0.1 f.0 f.1 in
+    let whole : parts ≡ notes_parts made =
+        head_takes (codes "notes") parts a.0 a.1 ∙ ap (λ (r : S). Open ∷ Word (codes "notes") ∷ r) (only_takes 1 a.0 b.0 b.1 ∙ ap (λ (r : S). Number (pos 1) ∷ r) (v.0 ∙ ap (λ (r : S). assertion_parts c.0.0 ++ r) (i.0 ∙ ap (λ (r : S). initial_parts d.0.0 ++ r) (m.0 ∙ ap (λ (r : S). flat_map func_parts f.0.0 ++ r) (close_takes f.0.1 g.0 g.1 ∙ ap (λ (r : S). Close ∷ r) z.0))))) ∙ sym (notes_spelled made) in
+    subst (λ (y : Notes). (parts ≡ notes_parts y) × AreNotes y) z.1 (whole, record { formulas = v.1; moves = i.1; with = i.2; funcs = m.1 })
+
+notes_again : (a : Notes) → AreNotes a → notes_at (notes_parts a) ≡ Some a
+unfolding notes_at
+notes_again a good =
+    let funcs : S = flat_map func_parts a.funcs ++ (Close ∷ []) in
+    let others : S = initial_parts a.initial ++ funcs in
+    let invariant : S = assertion_parts a.invariant ++ others in
+    ap notes_at (notes_spelled a) ∙
+    rw (head_again (codes "notes") (Number (pos 1) ∷ invariant), only_again 1 invariant (omega arith), assertion_again a.invariant others good.formulas, initial_again a.initial funcs good.moves good.with, many_again opens func_at func_parts IsFuncNotes reads_funcs a.funcs (Close ∷ []) good.funcs refl) refl
+
+-- ---- limits
+
+abbrev Left : Option ℕ → ℕ → ℕ → Type 0
+Left None left all = left < all
+Left (Some rest) left all = rest + all ≡ left
+
+left_notes : (left : ℕ) (notes : List Note) → Left (left_after left notes) left (moves_in notes)
+unfolding left_after
+left_notes left [] = omega arith
+left_notes left (n ∷ ns) = subst (Left (left_after left (n ∷ ns)) left) (sym (sum_by-cons (λ note. length note.moves) n ns)) (by (ltb left (length n.moves)) (ltb-true left (length n.moves)) (ltb-false left (length n.moves)) (left_after (left - length n.moves) ns) (left_notes (left - length n.moves) ns)) where
+  by : (t : Bool) → (t ≡ true → left < length n.moves) → (t ≡ false → length n.moves ≤ left) → (r : Option ℕ) → Left r (left - length n.moves) (moves_in ns) → Left (cond t None r) left (length n.moves + moves_in ns)
+  by true lt le r h = omega (arith, lt refl)
+  by false lt le None h = omega (arith, le refl, h)
+  by false lt le (Some rest) h = omega (arith, le refl, h)
+
+abbrev func_moves : List FuncNotes → ℕ
+func_moves funcs = sum_by (λ func. moves_in func.notes) funcs
+
+left_funcs : (left : ℕ) (funcs : List FuncNotes) → Left (left_after_all left funcs) left (func_moves funcs)
+unfolding left_after_all
+left_funcs left [] = omega arith
+left_funcs left (f ∷ fs) = subst (Left (left_after_all left (f ∷ fs)) left) (sym (sum_by-cons (λ func. moves_in func.notes) f fs)) (by (left_after left f.notes) (left_notes left f.notes) (λ rest. left_funcs rest fs)) where
+  then : (rest : ℕ) (r : Option ℕ) → rest + moves_in f.notes ≡ left → Left r rest (func_moves fs) → Left r left (moves_in f.notes + func_moves fs)
+  then rest None e h = omega (arith, e, h)
+  then rest (Some n) e h = omega (arith, e, h)
+  by : (r : Option ℕ) → Left r left (moves_in f.notes) → ((rest : ℕ) → Left (left_after_all rest fs) rest (func_moves fs)) → Left (r >>= λ rest. left_after_all rest fs) left (moves_in f.notes + func_moves fs)
+  by None h k = omega (arith, h)
+  by (Some rest) h k = then rest (left_after_all rest fs) h (k rest)
+
+few_from : (a : Notes) → has_few_moves a ≡ true → moves_of a ≤ 1000
+few_from a e = by (ltb 1000 (length a.initial.moves)) (ltb-false 1000 (length a.initial.moves)) (left_after_all (1000 - length a.initial.moves) a.funcs) (left_funcs (1000 - length a.initial.moves) a.funcs) e where
+  by : (t : Bool) → (t ≡ false → length a.initial.moves ≤ 1000) → (r : Option ℕ) → Left r (1000 - length a.initial.moves) (func_moves a.funcs) → cond t false (is_left r) ≡ true → moves_of a ≤ 1000
+  by true le r h e = absurd cc
+  by false le None h e = absurd cc
+  by false le (Some n) h e = omega (arith, le refl, h)
+
+few_test : (a : Notes) → moves_of a ≤ 1000 → has_few_moves a ≡ true
+few_test a few = by (ltb 1000 (length a.initial.moves)) (ltb-true 1000 (length a.initial.moves)) (left_after_all (1000 - length a.initial.moves) a.funcs) (left_funcs (1000 - length a.initial.moves) a.funcs) where
+  by : (t : Bool) → (t ≡ true → 1000 < length a.initial.moves) → (r : Option ℕ) → Left r (1000 - length a.initial.moves) (func_moves a.funcs) → cond t false (is_left r) ≡ true
+  by true lt r h = absurd (omega (arith, lt refl, few))
+  by false lt None h = absurd (omega (arith, few, h))
+  by false lt (Some n) h = refl
+
+both : (a b : Bool) → (a && b) ≡ true → (a ≡ true) × (b ≡ true)
+both true b e = (refl, e)
+both false b e = absurd cc
+
+found : (text : List ℕ) (a : Notes) → first_notes text ≡ Some a → IsFirstText text a
+unfolding first_notes
+found text a e =
+    let b = bind_some (notes_at (lexemes text)) (λ a. cond (leb (length a.invariant.formulas) 1000 && has_few_moves a) (Some a) None) a e in
+    let p = passed (leb (length b.0.invariant.formulas) 1000 && has_few_moves b.0) b.0 a b.2 in
+    let q = both (leb (length b.0.invariant.formulas) 1000) (has_few_moves b.0) p.0 in
+    let t = notes_take (lexemes text) b.0 b.1 in
+    subst (IsFirstText text) p.1
+    (record { spelled = t.0; form = record { formulas = t.1.formulas; moves = t.1.moves; with = t.1.with; funcs = t.1.funcs; few_formulas = leb-true _ _ q.0; few_moves = few_from b.0 q.1 } })
+
+pub found_again : (text : List ℕ) (a : Notes) → IsFirstText text a → first_notes text ≡ Some a
+unfolding first_notes
+found_again text a h =
+    let read : notes_at (lexemes text) ≡ Some a = ap notes_at h.spelled ∙ notes_again a (record { formulas = h.form.formulas; moves = h.form.moves; with = h.form.with; funcs = h.form.funcs }) in
+    rw (read, le-leb (length a.invariant.formulas) 1000 h.form.few_formulas, few_test a h.form.few_moves) refl
+
+pub is_found : (text : List ℕ) (r : Result Notes ReadError) → Gives (λ a. a) r (first_notes text) → IfOk r (IsFirstText text)
+is_found text (Ok a) given = found text a given
+is_found text (Err e) given = tt

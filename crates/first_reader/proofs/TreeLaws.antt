@@ -5,7 +5,7 @@ use Rattle.std.proofs.lemmas.Bool.{false≢true, eqb-true, ltb-true, lt-ltb}
 use Rattle.std.proofs.lemmas.Slice.Eq.{bytes_eq-Decides}
 use Rattle.std.proofs.lemmas.List.Elements.{All-from_recursion, recursion_from_All}
 use Rattle.std.proofs.lemmas.List.Kept.{AllPairs-cons}
-use Rattle.std.specs.List.{flat_map, AllByRecursion, list_all}
+use Rattle.std.specs.List.{flat_map, AllByRecursion, AllZip, list_all}
 use Rattle.std.specs.Str.{bytes_eq}
 use Rattle.wasm_values.specs.declared.number.ValType.TheVariants as type
 use Rattle.wasm_values.specs.declared.number.Val.TheVariants as value
@@ -19,15 +19,17 @@ use Rattle.wasm_syntax.specs.declared.module.ExportKind.{ExportKind}
 use Rattle.wasm_syntax.specs.declared.module.ExportKind.TheVariants as kind
 use Rattle.wasm_syntax.specs.declared.module.Module.{Module}
 use Rattle.wasm_syntax.specs.declared.module.Marks.{Marks}
-use Rattle.outline_check.specs.First.{IsU32, IsFirstBody, IsFirstFunc, IsFirstGlobal, IsI32Const, IsFunction, IsFirstExport, IsFirst, AreBytes, IsEmptyType}
+use Rattle.wasm_syntax.specs.declared.flat.Flat.TheVariants.{End}
+use Rattle.wasm_syntax.specs.FlatForm.{flat, flat_body}
+use Rattle.outline_check.specs.First.{HasPlaceEach, HasPlaces, IsU32, IsFirstBody, IsFirstFunc, IsFirstGlobal, IsI32Const, IsFunction, IsFirstExport, IsFirst, AreBytes, IsEmptyType}
 use Rattle.first_reader.specs.declared.error.ReadError.{ReadError}
-use Rattle.first_reader.specs.FirstBytes.{expr_bytes, global_bytes, kind_bytes, first_bytes, first_marks, empty_type, IsSmallConstant, IsSmallInstr, AreSmallInstrs, IsSmallKind, IsPrinted, IsSmallExport, IsSmallFunc, IsSmallGlobal, IsSmallModule}
+use Rattle.first_reader.specs.FirstBytes.{instr_bytes, expr_bytes, code_bytes, code_at, places, code_places, global_bytes, kind_bytes, first_bytes, first_marks, empty_type, IsSmallConstant, IsSmallInstr, AreSmallInstrs, IsSmallKind, IsPrinted, IsSmallExport, IsSmallFunc, IsSmallGlobal, IsSmallModule}
 use Rattle.first_reader.specs.First.{IsFirstBytes}
 use Rattle.first_reader.specs.Reading.{◌>>=◌, Gives}
 use Rattle.first_reader.specs.ReadingModule.{new_global, new_module, module_at}
 use Rattle.first_reader.specs.Trees.{less, depth_after, is_body, is_function, lacks, names_differ, is_first, first_module}
 use Rattle.first_reader.proofs.PartLaws.{bind_some, passed}
-use Rattle.first_reader.proofs.InstrLaws.{body_short}
+use Rattle.first_reader.proofs.InstrLaws.{body_short, flat_length}
 use Rattle.first_reader.proofs.ModuleLaws.{IsReadGlobal, IsReadFunc, IsRead, module_takes, module_again}
 
 -- ---- words on lists
@@ -319,3 +321,25 @@ pub short_names : (m : Module) (bytes : List ℕ) → module_at bytes ≡ Some m
 short_names m bytes e =
     let h = (module_takes bytes m e).1 in
     All-from_recursion (λ export. (length export.name < 128) × (length (kind_bytes export.kind) ≡ 2)) m.exports (all_from IsSmallExport (λ export. (length export.name < 128) × (length (kind_bytes export.kind) ≡ 2)) (λ x p. (p.len, two_bytes x.kind p.kind)) m.exports h.exports)
+
+-- ---- the marks have a place for each instruction
+
+places_length : {A : Type 0} (spell : A → List ℕ) (at : ℕ) (xs : List A) → length (places spell at xs) ≡ length xs
+places_length spell at [] = refl
+places_length spell at (x ∷ xs) = ap suc (places_length spell (at + length (spell x)) xs)
+
+flat_count : (is : List Instr) → AreSmallInstrs is → length (flat_body is) ≡ length is + 1
+flat_count is small = omega (arith, length-append (flat is) (End ∷ []), flat_length is small)
+
+place_each : (at : ℕ) (fs : List Func) → AllByRecursion IsSmallFunc fs → AllZip HasPlaceEach fs (code_places at fs)
+place_each at [] small = tt
+place_each at (f ∷ fs) small =
+    (omega (arith, length-append (places instr_bytes (at + 2) f.body) ((at + 2 + length (flat_map instr_bytes f.body)) ∷ []), places_length instr_bytes (at + 2) f.body, flat_count f.body small.0.body),
+     place_each (at + length (code_bytes f)) fs small.1)
+
+pub is_placed : (bytes : List ℕ) (m : Module) (marks : Marks) → IsFirstBytes bytes m marks → HasPlaces m marks
+is_placed bytes m marks h = subst (λ k. HasPlaces m k) (sym h.marked) (place_each (code_at m + 3) m.funcs h.small.funcs)
+
+pub read_is_placed : (bytes : List ℕ) (r : Result (Module × Marks) ReadError) → Gives (λ x. x) r (first_module bytes) → IfOk r (λ x. HasPlaces x.0 x.1)
+read_is_placed bytes (Ok x) given = is_placed bytes x.0 x.1 (found bytes x given)
+read_is_placed bytes (Err e) given = tt

@@ -4,6 +4,7 @@ ghost use Rattle.std.specs.Prelude.{◌≡◌, Some, IfOk};
 ghost use Rattle.first_reader.specs.Reading.{Gives};
 ghost use Rattle.first_reader.specs.Trees.{first_module};
 ghost use Rattle.first_reader.specs.First.{IsFirstBytes};
+ghost use Rattle.outline_check.specs.First.{HasPlaces};
 ghost use Rattle.wasm_syntax.specs.declared.module.Module.{Module};
 ghost use Rattle.wasm_syntax.specs.declared.module.Marks.{Marks};
 
@@ -33,6 +34,9 @@ pub fn read_module(alloc: Global, bytes: &[u8]) -> Result<(Module, Marks), ReadE
 
     // What is spelled so is read, unless memory runs out.
     ensures only { (m : Module) (marks : Marks) → IsFirstBytes bytes.now m marks → Gives (λ x. x) result (Some (m, marks)) }
+
+    // The marks have a place for each instruction.
+    ensures placed { IfOk result (λ x. HasPlaces x.0 x.1) }
 
     // Reading is a function of the bytes.
     ensures exact { Gives (λ x. x) result (first_module bytes.now) }
