@@ -1,4 +1,4 @@
--- Counts of faults and of calls. They say of an outside that fails that it was the outside that failed.
+-- Counts of faults and of calls.
 use Rattle.std.specs.Prelude.{ℕ, ◌+◌, ◌<◌, ◌≤◌, ◌≡◌, ◌⊎◌, min}
 
 -- The last value of a count, where it stays.

@@ -11,10 +11,10 @@ contents_of (file ∷ files) name = if bytes_eq file.0 name then Some file.1 els
 abbrev pub Lacks : Option (List (List ℕ × List ℕ)) → List ℕ → Type 0
 Lacks files name = IsSomeAnd files (λ told. contents_of told name ≡ None)
 
--- Where the files are told, one of them has this name, and its contents meet this.
+-- Where the files are told, there is one of this name, and its contents meet P.
 abbrev pub IfContents : Option (List (List ℕ × List ℕ)) → List ℕ → (List ℕ → Type 0) → Type 0
 IfContents files name P = IfSome files (λ told. IsSomeAnd (contents_of told name) P)
 
--- The files are told, and the one of this name has more bytes than this.
+-- The files are told, and the one of this name has more bytes than the limit.
 abbrev pub IsLonger : Option (List (List ℕ × List ℕ)) → List ℕ → ℕ → Type 0
 IsLonger files name limit = IsSomeAnd files (λ told. IsSomeAnd (contents_of told name) (λ contents. limit < length contents))

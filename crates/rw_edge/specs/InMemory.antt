@@ -20,7 +20,7 @@ pub record MemSinkState : Type 0 where
   pub number : ℕ
   pub faults : ℕ
 
--- The contents of the file at this place, or nothing where there is no place.
+-- The contents of the file at a place, or no bytes where no place is given or there is no file.
 abbrev pub contents_at : List (List ℕ × List ℕ) → Option ℕ → List ℕ
 contents_at files None = []
 contents_at files (Some place) = (slice_index_or files place ([], [])).1

@@ -1,6 +1,5 @@
 //! A shelf in memory.
-ghost use Rattle.std.specs.Prelude.{◌≡◌, ◌+◌, ◌^◌, ◌≤◌, ◌<◌, ◌⊎◌, ◌↔◌, ℕ, [], ◌++◌, Some, None, IfOk, OnOk, OnErr, IsErr, IsNone, IsSome, MatchOption, Contains, length, min, take, drop};
-ghost use Rattle.std.specs.Io.KnownBytes.{Consumes, IsAtEnd};
+ghost use Rattle.std.specs.Prelude.{◌≡◌, ◌+◌, ◌^◌, ◌≤◌, ◌<◌, ◌⊎◌, ◌↔◌, [], ◌++◌, Some, None, IfOk, OnOk, OnErr, IsErr, IsNone, IsSome, MatchOption, Contains, length, min, take, drop};
 ghost use Rattle.rw_edge.specs.Count.{NeverFalls, next_count};
 ghost use Rattle.rw_edge.specs.Files.{contents_of};
 ghost use Rattle.rw_edge.specs.InMemory.{contents_at};

@@ -1,6 +1,5 @@
 //! A sink in memory.
-ghost use Rattle.std.specs.Prelude.{◌≡◌, ◌≤◌, ◌<◌, ◌-◌, ◌⊎◌, ◌↔◌, ℕ, [], ◌++◌, IfOk, OnOk, OnErr, IsErr, Contains, is_some, length, min, take};
-ghost use Rattle.std.specs.Io.KnownBytes.{Appends};
+ghost use Rattle.std.specs.Prelude.{◌≡◌, ◌<◌, ◌-◌, ◌⊎◌, ◌↔◌, [], ◌++◌, IfOk, OnErr, IsErr, Contains, length, min, take};
 ghost use Rattle.rw_edge.specs.Count.{NeverFalls, next_count};
 
 use crate::calls::Calls;

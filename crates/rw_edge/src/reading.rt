@@ -1,5 +1,5 @@
 //! Reading a file whole.
-ghost use Rattle.std.specs.Prelude.{◌≡◌, ◌≤◌, ◌<◌, ◌⊎◌, Ok, Err, IfOk, OnOk, IfSome, IsErrOf, IsSome, length, vec_len};
+ghost use Rattle.std.specs.Prelude.{◌≡◌, ◌≤◌, ◌<◌, ◌⊎◌, IfOk, OnOk, IfSome, IsErrOf, IsSome, length, vec_len};
 ghost use Rattle.std.specs.Io.KnownBytes.{IsAtEnd};
 ghost use Rattle.rw_edge.specs.Count.{Faulted, NeverFalls};
 ghost use Rattle.rw_edge.specs.Files.{Lacks, IfContents, IsLonger};
