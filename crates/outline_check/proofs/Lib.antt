@@ -1,1 +1,4 @@
 pub mod StateLemmas
+pub mod WalkLemmas
+pub mod ModuleLemmas
+pub mod DerivationLaws

@@ -1,10 +1,10 @@
 -- States that are made, and globals that are added one by one.
-use Rattle.std.proofs.Common.{◌≡◌, ℕ, zero, suc, ◌+◌, ◌-◌, ◌<◌, ◌≤◌, Result, Ok, Err, refl, ap, sym, ◌∙◌, subst, add-zero, add-suc, add-one, arith, rules}
+use Rattle.std.proofs.Common.{◌≡◌, ℕ, zero, suc, ◌+◌, ◌-◌, ◌<◌, ◌≤◌, Ok, Err, ◌∙◌, subst, add-zero, add-suc, add-one, arith}
 use Rattle.std.proofs.lemmas.Grind.{common_steps}
 use Rattle.outline_check.specs.declared.state.State.{State}
 use Rattle.outline_check.specs.declared.stop.Stop.{Stop}
 use Rattle.outline_check.specs.declared.stop.Stop.TheVariants as stop
-use Rattle.outline_check.specs.Refusals.{and_then, IsSaid}
+use Rattle.outline_check.specs.Refusals.{IsSaid}
 use Rattle.outline_check.specs.States.{made, with_global, with_globals}
 
 pub made-few : (s t : State) → made s ≡ Ok t → t.variables ≤ 1000000

@@ -1,8 +1,8 @@
 -- Derivations by the rules `hyp` and `eval`.
-use Rattle.std.specs.Prelude.{◌≡◌, ℕ, ◌+◌, ◌-◌, ◌^◌, ◌<◌, Bool, true, false, if◌then◌else◌, ◌&&◌, nat_lt, nat_eq, ℤ, nat_abs, int_le, List, [], ◌∷◌, ◌++◌, length, slice_get, Option, Some, None}
+use Rattle.std.specs.Prelude.{true, ◌≡◌, ◌<◌, ◌⊎◌, MatchOption, map, take, ℕ, ◌-◌, ◌^◌, Bool, false, if◌then◌else◌, ◌&&◌, nat_lt, nat_eq, ℤ, nat_abs, int_le, List, [], ◌∷◌, ◌++◌, length, slice_get, Option, Some, None}
+use Rattle.std.specs.List.{list_all}
 use Rattle.std.specs.Option.{option_map_or}
 use Rattle.std.specs.Ordering.{int_eq}
-use Rattle.outline_check.specs.declared.notes.Formula.{Formula}
 use Rattle.outline_check.specs.declared.notes.Rule.{Rule}
 use Rattle.outline_check.specs.declared.notes.Rule.TheVariants as rule
 use Rattle.outline_check.specs.declared.notes.Ref.{Ref}
@@ -62,3 +62,50 @@ bad_from globals hyps goal earlier (step ∷ steps) =
 
 abbrev pub first_bad : List Term → List Fact → Fact → List Step → Option ℕ
 first_bad globals hyps goal steps = bad_from globals hyps goal [] steps
+
+-- The conclusions of steps, in their order.
+abbrev pub conclusions : List Term → List Step → List Fact
+conclusions globals steps = map (λ step. fact_of globals step.formula) steps
+
+-- Whether step k is an instance over the hypotheses and the conclusions of the steps before it.
+abbrev pub is_instance_at : List Term → List Fact → List Step → ℕ → Bool
+is_instance_at globals hyps steps k =
+    option_map_or
+      (λ step. is_instance hyps (take k (conclusions globals steps)) step.rule step.refs (fact_of globals step.formula))
+      (slice_get steps k) false
+
+-- The steps derive the goal from the hypotheses: each step is an instance over the hypotheses and the earlier
+-- conclusions, and the last conclusion is the goal.
+pub record Derives (globals : List Term) (hyps : List Fact) (goal : Fact) (steps : List Step) : Type 0 where
+  pub instances : (k : ℕ) → k < length steps → is_instance_at globals hyps steps k ≡ true
+  pub last : ends_in (conclusions globals steps) goal ≡ true
+
+-- The steps before k are instances, and step k isn't; or k is the number of all steps and the last conclusion isn't the
+-- goal.
+pub record IsFirstBad (globals : List Term) (hyps : List Fact) (goal : Fact) (steps : List Step) (k : ℕ) : Type 0 where
+  pub before : (j : ℕ) → j < k → is_instance_at globals hyps steps j ≡ true
+  pub here :
+    ((k < length steps) × (is_instance_at globals hyps steps k ≡ false))
+    ⊎ ((k ≡ length steps) × (ends_in (conclusions globals steps) goal ≡ false))
+
+-- The first bad step is none exactly where the steps derive the goal, and else it is the first bad one.
+abbrev pub DerivationsAreExact : Type 0
+DerivationsAreExact =
+    (globals : List Term) (hyps : List Fact) (goal : Fact) (steps : List Step) →
+    MatchOption (first_bad globals hyps goal steps) (Derives globals hyps goal steps) (IsFirstBad globals hyps goal steps)
+
+-- The value of a term, where numbers are given for the variables.
+abbrev pub value_of : (ℕ → ℤ) → Term → ℤ
+value_of numbers (Number n) = n
+value_of numbers (Variable v) = numbers v
+
+-- Whether a fact is true under these numbers.
+abbrev pub is_true : (ℕ → ℤ) → Fact → Bool
+is_true numbers (Equal a b) = int_eq (value_of numbers a) (value_of numbers b)
+is_true numbers (AtMost a b) = int_le (value_of numbers a) (value_of numbers b)
+
+-- What is derived from true facts is true, under all numbers.
+abbrev pub DerivationsAreSound : Type 0
+DerivationsAreSound =
+    (globals : List Term) (hyps : List Fact) (goal : Fact) (steps : List Step) (numbers : ℕ → ℤ) →
+    Derives globals hyps goal steps → list_all (is_true numbers) hyps ≡ true → is_true numbers goal ≡ true

@@ -1,5 +1,5 @@
 -- The smallest class of modules that the outline check takes, named First.
-use Rattle.std.specs.Prelude.{◌≡◌, ◌≢◌, ℕ, zero, suc, ◌+◌, ◌^◌, ◌<◌, true, List, [], ◌∷◌, length, All, AllPairs, None}
+use Rattle.std.specs.Prelude.{◌≡◌, ◌≢◌, ℕ, zero, suc, ◌^◌, ◌<◌, true, List, [], ◌∷◌, length, All, AllPairs, None}
 use Rattle.std.specs.List.{AllZip}
 use Rattle.wasm_values.specs.declared.number.ValType.TheVariants as type
 use Rattle.wasm_values.specs.declared.number.Val.TheVariants as value

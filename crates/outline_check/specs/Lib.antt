@@ -3,3 +3,4 @@ pub mod Refusals
 pub mod States
 pub mod Derivations
 pub mod Outlines
+pub mod Cursors

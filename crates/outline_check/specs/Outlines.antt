@@ -1,5 +1,5 @@
 -- When notes are an accepted outline of a module of First, and else the first refusal with its place.
-use Rattle.std.specs.Prelude.{◌≡◌, ℕ, ◌+◌, Bool, true, false, if◌then◌else◌, ◌&&◌, nat_lt, nat_le, nat_eq, List, [], ◌∷◌, ◌++◌, length, map, find, slice_get, slice_index, slice_index_or, Option, Some, None, Result, Ok, Err}
+use Rattle.std.specs.Prelude.{ℕ, ◌+◌, Bool, true, false, ◌&&◌, nat_lt, nat_le, nat_eq, List, [], ◌∷◌, length, map, find, slice_get, slice_index, slice_index_or, Option, Some, None, Result, Ok, Err}
 use Rattle.std.specs.Option.{option_map_or}
 use Rattle.std.specs.List.{list_all}
 use Rattle.wasm_syntax.specs.declared.instr.Instr.{Instr}
@@ -129,11 +129,14 @@ rise_within low high (n ∷ ns) = nat_le low n && nat_lt n high && rise_within (
 abbrev pub instructions : List Func → ℕ → ℕ
 instructions funcs f = option_map_or (λ func. length (flat_body func.body)) (slice_get funcs f) 0
 
--- The functions in the notes are defined and rise; instruction numbers rise and exist.
+-- The instruction numbers in the notes of a function rise and exist.
+abbrev pub body_fits : List Func → FuncNotes → Bool
+body_fits funcs func = rise_within 0 (instructions funcs func.func) (map (λ note. note.at) func.notes)
+
+-- The functions in the notes are defined and rise, and so do the instruction numbers of each.
 abbrev pub notes_fit : List Func → List FuncNotes → Bool
 notes_fit funcs notes =
-    rise_within 0 (length funcs) (map (λ func. func.func) notes)
-    && list_all (λ func. rise_within 0 (instructions funcs func.func) (map (λ note. note.at) func.notes)) notes
+    rise_within 0 (length funcs) (map (λ func. func.func) notes) && list_all (body_fits funcs) notes
 
 -- The initial state meets the invariant.
 abbrev pub initial_outline : Module → Notes → Result (Unit {0}) Stop

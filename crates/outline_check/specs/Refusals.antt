@@ -1,5 +1,5 @@
 -- The first refusal of tests that stand in a row, and its place.
-use Rattle.std.specs.Prelude.{◌≡◌, ℕ, Bool, true, false, if◌then◌else◌, Option, Some, None, Result, Ok, Err}
+use Rattle.std.specs.Prelude.{◌≡◌, ℕ, Bool, true, false, Option, Result, Ok, Err}
 use Rattle.outline_check.specs.declared.answer.Answer.{Answer}
 use Rattle.outline_check.specs.declared.answer.Answer.TheVariants as answer
 use Rattle.outline_check.specs.declared.answer.CheckFault.{CheckFault}

@@ -1,8 +1,8 @@
 -- The symbolic state before an instruction, and what instructions of First do to it.
-use Rattle.std.specs.Prelude.{◌≡◌, ℕ, zero, suc, ◌+◌, ◌*◌, ◌^◌, Bool, true, false, if◌then◌else◌, nat_lt, ℤ, pos, List, [], ◌∷◌, ◌++◌, length, map, drop, slice_index_or, slice_set, Result, Ok, Err}
+use Rattle.std.specs.Prelude.{ℕ, zero, suc, ◌+◌, ◌*◌, if◌then◌else◌, nat_lt, pos, List, [], ◌∷◌, ◌++◌, length, map, drop, slice_index_or, slice_set, Result, Ok, Err}
 use Rattle.wasm_values.specs.declared.number.Val.TheVariants as value
 use Rattle.wasm_syntax.specs.declared.instr.Instr.{Instr, Plain, Const, GlobalGet, GlobalSet}
-use Rattle.wasm_syntax.specs.declared.instr.Plain.TheVariants.{Nop, Drop}
+use Rattle.wasm_syntax.specs.declared.instr.Plain.TheVariants.{Drop}
 use Rattle.wasm_syntax.specs.declared.module.Global.{Global}
 use Rattle.outline_check.specs.declared.answer.LimitWord.TheVariants as word
 use Rattle.outline_check.specs.declared.notes.Formula.{Formula}

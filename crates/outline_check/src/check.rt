@@ -1,17 +1,161 @@
-ghost use Rattle.outline_check.specs.First.{IsFirst, HasPlaces};
-ghost use Rattle.outline_check.specs.Refusals.{IsAnswer};
-ghost use Rattle.outline_check.specs.Outlines.{outline};
+ghost use Rattle.std.specs.Prelude.{◌≡◌, ◌+◌, ◌<◌, ◌^◌, true, length, map, slice_get, find};
+ghost use Rattle.std.specs.List.{list_all, AllZip};
+ghost use Rattle.std.specs.Option.{option_copied};
+ghost use Rattle.wasm_syntax.specs.FlatForm.{is_simple};
+ghost use Rattle.outline_check.specs.First.{IsFirst, HasPlaces, HasPlaceEach};
+ghost use Rattle.outline_check.specs.Refusals.{test_for, IsSaid, IsSaidThere, IsAnswer};
+ghost use Rattle.outline_check.specs.Outlines.{notes_of, body_fits, notes_fit, rise_within, instructions, functions_from, initial_outline, module_outline, outline};
+ghost use Rattle.outline_check.specs.Cursors.{IsCursor, AreSimple};
 
-use crate::answer::{Answer, CheckFault};
-use crate::notes::Notes;
-use crate::state::{Fact, State};
+use crate::answer::{Answer, CheckFault, Reason};
+use crate::effect::initial_state;
+use crate::moves::{are_in_scope, entailed, moved};
+use crate::notes::{Formula, FuncNotes, Note, Notes};
+use crate::place::{answered, placed};
 use crate::stop::{Refusal, Stop};
+use crate::walk::check_function;
 use std::alloc::Global;
-use wasm_syntax::{Marks, Module};
+use wasm_syntax::{Func, Marks, Module};
+use wasm_values::List;
+
+fn numbers_rise(notes: &[Note], high: usize) -> bool
+    ensures { result ≡ rise_within 0 high (map (λ note. note.at) notes.now) }
+{
+    let mut low = 0;
+    for note in notes {
+        let at = note.at as usize;
+        if at < low || at >= high {
+            return false;
+        }
+        low = at + 1;
+    }
+    true
+}
+
+fn functions_rise(notes: &[FuncNotes], high: usize) -> bool
+    ensures { result ≡ rise_within 0 high (map (λ func. func.func) notes.now) }
+{
+    let mut low = 0;
+    for func in notes {
+        let at = func.func as usize;
+        if at < low || at >= high {
+            return false;
+        }
+        low = at + 1;
+    }
+    true
+}
+
+/// The number of instructions of a function, its last `end` counted.
+fn instructions(funcs: &[Func], f: usize) -> usize
+    ensures { result ≡ instructions funcs.now f }
+{
+    match funcs.get(f) {
+        Some(func) => func.body.len(),
+        None => 0,
+    }
+}
+
+/// Whether the notes' numbers of instructions rise and exist.
+fn bodies_fit(funcs: &[Func], notes: &[FuncNotes]) -> bool
+    ensures { result ≡ list_all (body_fits funcs.now) notes.now }
+{
+    for func in notes {
+        let high = instructions(funcs, func.func as usize);
+        if !numbers_rise(func.notes.as_slice(), high) {
+            return false;
+        }
+    }
+    true
+}
+
+/// Whether the notes' numbers of functions and instructions rise and exist.
+fn notes_fit(funcs: &[Func], notes: &[FuncNotes]) -> bool
+    ensures { result ≡ notes_fit funcs.now notes.now }
+{
+    functions_rise(notes, funcs.len()) && bodies_fit(funcs, notes)
+}
+
+fn test_for(reason: Reason, met: bool) -> Result<(), Stop>
+    ensures { result ≡ test_for reason met }
+{
+    if met {
+        Ok(())
+    } else {
+        Err(Stop::Reason(reason))
+    }
+}
+
+/// The notes of function `f`, and the cursor for the next function.
+fn notes_here<'a>(notes: &'a [FuncNotes], cursor: usize, f: usize) -> (&'a [Note], usize)
+    requires { IsCursor (λ func. func.func) notes.now cursor f }
+    ensures notes { result.0.now ≡ notes_of notes.now f }
+    ensures cursor { IsCursor (λ func. func.func) notes.now result.1 (f + 1) }
+{
+    if cursor < notes.len() {
+        let func = &notes[cursor];
+        if func.func as usize == f {
+            return (func.notes.as_slice(), cursor + 1);
+        }
+    }
+    (&[], cursor)
+}
+
+/// The functions, in index order.
+fn check_functions(
+    alloc: Global,
+    funcs: &[Func],
+    globals: usize,
+    notes: &Notes,
+    code: &[List<usize>],
+) -> Result<(), Refusal>
+    requires first { AreSimple funcs.now }
+    requires few { length funcs.now < 2 ^ 32 }
+    requires marked { AllZip HasPlaceEach funcs.now code.now }
+    requires fit { notes_fit funcs.now notes.now.funcs ≡ true }
+    ensures { IsSaidThere result (functions_from globals notes.now code.now 0 funcs.now) }
+{
+    let invariant = notes.invariant.formulas.as_slice();
+    let mut cursor = 0;
+    for f in 0..funcs.len() {
+        let (own, next) = notes_here(notes.funcs.as_slice(), cursor, f);
+        cursor = next;
+        let func = &funcs[f];
+        let places = code[f].as_slice();
+        check_function(alloc, invariant, f as u32, own, places, globals, &func.body)?;
+    }
+    Ok(())
+}
+
+/// The initial state meets the invariant.
+fn check_initial(alloc: Global, m: &Module, notes: &Notes) -> Result<(), Stop>
+    ensures { IsSaid result (initial_outline m.now notes.now) }
+{
+    let state = initial_state(alloc, m.globals.as_slice())?;
+    let state = moved(alloc, notes.initial.moves.as_slice(), state)?;
+    let formulas = notes.invariant.formulas.as_slice();
+    entailed(formulas, notes.initial.with.facts.as_slice(), &state)
+}
+
+fn check_all(alloc: Global, m: &Module, notes: &Notes, marks: &Marks) -> Result<(), Refusal>
+    requires first { IsFirst m.now }
+    requires marked { HasPlaces m.now marks.now }
+    ensures { IsSaidThere result (module_outline m.now marks.now notes.now) }
+{
+    let funcs = m.funcs.as_slice();
+    let globals = m.globals.len();
+    let fit = notes_fit(funcs, notes.funcs.as_slice());
+    placed(0, None, test_for(Reason::Notes, fit))?;
+    let in_scope = are_in_scope(globals, notes.invariant.formulas.as_slice());
+    placed(0, None, test_for(Reason::Scope, in_scope))?;
+    check_functions(alloc, funcs, globals, notes, marks.code.as_slice())?;
+    placed(marks.len, None, check_initial(alloc, m, notes))
+}
 
 /// Whether the notes are an accepted proof outline of the module, and else the first refusal.
+#[tactic(auto, unfolding(crate::specs::Outlines::outline))]
 pub fn check_module(
-    _alloc: Global,
+    alloc: Global,
     module: &Module,
     notes: &Notes,
     marks: &Marks,
@@ -20,5 +164,5 @@ pub fn check_module(
     requires marked { HasPlaces «module».now marks.now }
     ensures { IsAnswer result (outline «module».now marks.now notes.now) }
 {
-    Err(CheckFault::OutOfMemory)
+    answered(check_all(alloc, module, notes, marks))
 }

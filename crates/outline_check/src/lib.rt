@@ -5,14 +5,19 @@ mod answer;
 mod check;
 mod derivation;
 mod effect;
+mod laws;
 mod moves;
 mod notes;
 mod place;
 mod state;
 mod stop;
+#[cfg(test)]
+mod tests;
+mod walk;
 
 pub use answer::{Answer, CheckFault, LimitWord, Reason};
 pub use check::check_module;
+pub use laws::{derivations_are_exact, derivations_are_sound};
 pub use notes::{
     Assertion, Formula, FuncNotes, Initial, Move, Note, Notes, Ref, Rule, Step, Use, With,
 };

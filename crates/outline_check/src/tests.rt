@@ -1,0 +1,193 @@
+ghost use Rattle.std.specs.Prelude.{◌≡◌, true, [], ◌∷◌, IfOk};
+ghost use Rattle.outline_check.specs.First.{IsFirst, HasPlaces};
+
+use super::*;
+use std::alloc::Global;
+use std::test::Fail;
+use wasm_syntax::{
+    Code, Export, ExportKind, Func, FuncType, Global as GlobalEntry, GlobalType, Instr, Marks,
+    Module,
+};
+use wasm_values::{List, OutOfMemory, Text, Val, ValType};
+
+fn one<T: Drop>(alloc: Global, item: T) -> Result<List<T>, OutOfMemory>
+    ensures { IfOk result (λ items. items ≡ item ∷ []) }
+{
+    let mut items = List::new(alloc);
+    items.push(item)?;
+    Ok(items)
+}
+
+fn two<T: Drop>(alloc: Global, first: T, second: T) -> Result<List<T>, OutOfMemory>
+    ensures { IfOk result (λ items. items ≡ first ∷ second ∷ []) }
+{
+    let mut items = List::new(alloc);
+    items.push(first)?;
+    items.push(second)?;
+    Ok(items)
+}
+
+/// `i32.const N, global.set 0`
+fn body(alloc: Global, n: u32) -> Result<Code, OutOfMemory>
+    ensures { IfOk result (λ code. code ≡ Instr.Const (Val.I32 n) ∷ Instr.GlobalSet 0 ∷ []) }
+{
+    let tree = two(alloc, Instr::Const(Val::I32(n)), Instr::GlobalSet(0))?;
+    Code::from_tree(alloc, &tree)
+}
+
+fn types(alloc: Global) -> Result<List<FuncType>, OutOfMemory>
+    ensures { IfOk result (λ types. types ≡ record { params = []; results = [] } ∷ []) }
+{
+    one(
+        alloc,
+        FuncType {
+            params: List::new(alloc),
+            results: List::new(alloc),
+        },
+    )
+}
+
+fn funcs(alloc: Global, n: u32) -> Result<List<Func>, OutOfMemory>
+    ensures { IfOk result (λ funcs. funcs
+        ≡ record { ty = 0; locals = []; body = Instr.Const (Val.I32 n) ∷ Instr.GlobalSet 0 ∷ [] } ∷ []) }
+{
+    let body = body(alloc, n)?;
+    one(
+        alloc,
+        Func {
+            ty: 0,
+            locals: List::new(alloc),
+            body,
+        },
+    )
+}
+
+fn globals(alloc: Global) -> Result<List<GlobalEntry>, OutOfMemory>
+    ensures { IfOk result (λ globals. globals
+        ≡ record { ty = record { value = ValType.I32; mutable = true }; init = Instr.Const (Val.I32 7) ∷ [] } ∷ []) }
+{
+    let init = one(alloc, Instr::Const(Val::I32(7)))?;
+    one(
+        alloc,
+        GlobalEntry {
+            ty: GlobalType {
+                value: ValType::I32,
+                mutable: true,
+            },
+            init,
+        },
+    )
+}
+
+fn exports(alloc: Global) -> Result<List<Export>, OutOfMemory>
+    ensures { IfOk result (λ exports. exports ≡ record { name = 102 ∷ []; kind = ExportKind.Func 0 } ∷ []) }
+{
+    let name = Text::from_str(alloc, "f")?;
+    one(
+        alloc,
+        Export {
+            name,
+            kind: ExportKind::Func(0),
+        },
+    )
+}
+
+/// The module of 43 bytes with one private global, whose function sets the global to `n`, and its marks.
+fn sample(alloc: Global, n: u32) -> Result<(Module, Marks), OutOfMemory>
+    ensures first { IfOk result (λ pair. IsFirst pair.0) }
+    ensures marked { IfOk result (λ pair. HasPlaces pair.0 pair.1) }
+{
+    let m = Module {
+        types: types(alloc)?,
+        imports: List::new(alloc),
+        funcs: funcs(alloc, n)?,
+        tables: List::new(alloc),
+        memories: List::new(alloc),
+        globals: globals(alloc)?,
+        exports: exports(alloc)?,
+        start: None,
+        elems: List::new(alloc),
+        segments: List::new(alloc),
+        customs: List::new(alloc),
+    };
+    let mut places = two(alloc, 0x26, 0x28)?;
+    places.push(0x2a)?;
+    let marks = Marks {
+        len: 43,
+        types: List::new(alloc),
+        imports: List::new(alloc),
+        funcs: List::new(alloc),
+        tables: List::new(alloc),
+        memories: List::new(alloc),
+        globals: List::new(alloc),
+        exports: List::new(alloc),
+        start: 0,
+        elems: List::new(alloc),
+        segments: List::new(alloc),
+        code: one(alloc, places)?,
+    };
+    Ok((m, marks))
+}
+
+fn formula(value: i128) -> Formula {
+    Formula { global: 0, value }
+}
+
+/// `have (= (global 0) 7)` by `eval`
+fn have(alloc: Global) -> Result<List<Move>, OutOfMemory> {
+    let step = Step {
+        rule: Rule::Eval,
+        formula: formula(7),
+        refs: List::new(alloc),
+    };
+    one(alloc, Move::Have(formula(7), one(alloc, step)?))
+}
+
+/// Notes by which the global is always 7.
+fn sample_notes(alloc: Global) -> Result<Notes, OutOfMemory> {
+    let initial = Initial {
+        moves: have(alloc)?,
+        with: With {
+            facts: one(alloc, 0)?,
+        },
+    };
+    let used = Use::With(With {
+        facts: one(alloc, 3)?,
+    });
+    let note = Note {
+        at: 2,
+        moves: have(alloc)?,
+        used,
+    };
+    let func = FuncNotes {
+        func: 0,
+        notes: one(alloc, note)?,
+    };
+    Ok(Notes {
+        invariant: Assertion {
+            formulas: one(alloc, formula(7))?,
+        },
+        initial,
+        funcs: one(alloc, func)?,
+    })
+}
+
+#[test]
+fn one_private_global(rt: HostRuntime) -> Result<(), Fail> {
+    let alloc = rt.alloc();
+    let notes = sample_notes(alloc)?;
+    let (kept, marks) = sample(alloc, 7)?;
+    assert_eq!(rt;
+        check_module(alloc, &kept, &notes, &marks),
+        Ok(Answer::Verified)
+    );
+    let (changed, marks) = sample(alloc, 8)?;
+    let reason = Reason::Derivation(0);
+    let failed = Answer::Failed {
+        at: 0x2a,
+        function: Some(0),
+        reason,
+    };
+    assert_eq!(rt; check_module(alloc, &changed, &notes, &marks), Ok(failed));
+    Ok(())
+}
