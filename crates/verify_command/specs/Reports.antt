@@ -1,5 +1,8 @@
 -- What a run reports: a text and a status, as a function of the words and the files.
-use Rattle.std.specs.Prelude.{◌≡◌, ℕ, Bool, true, false, List, [], ◌∷◌, length, Option, Some, None, Result, Ok, Err, nat_lt, if◌then◌else◌, codes}
+use Rattle.std.specs.Io.KnownBytes.{Appends}
+use Rattle.std.specs.declared.string.String.{String}
+use Rattle.std.specs.declared.alloc.Global.{Global}
+use Rattle.std.specs.Prelude.{◌≡◌, ◌≤◌, ◌⊎◌, ℕ, map, take, string_bytes, Bool, true, false, List, [], ◌∷◌, length, Option, Some, None, Result, Ok, Err, nat_lt, if◌then◌else◌, codes}
 use Rattle.std.specs.Str.{bytes_eq}
 use Rattle.wasm_syntax.specs.declared.module.Module.{Module}
 use Rattle.wasm_syntax.specs.declared.module.Marks.{Marks}
@@ -108,3 +111,25 @@ IsSpoken status.Good = Unit {0}
 IsSpoken status.Negative = Unit {0}
 IsSpoken status.Limit = Unit {0}
 IsSpoken _ = ⊥
+
+-- A run comes to its report's status, or else memory was wanting, or the outside failed.
+abbrev pub Comes : Status → Status → Type 0 → Type 0 → Type 0
+Comes came wanted read_fault write_fault =
+    (came ≡ wanted) ⊎ ((came ≡ status.OutOfMemory) ⊎ (((came ≡ status.ReadFault) × read_fault) ⊎ ((came ≡ status.WriteFault) × write_fault)))
+
+-- A text was written whole with the statuses 0, 1, 2 and 6, a prefix of it with status 4, and nothing with 3 and 5.
+abbrev pub Wrote : Status → List ℕ → Option (List ℕ) → Option (List ℕ) → Type 0
+Wrote status.ReadFault text old new = new ≡ old
+Wrote status.OutOfMemory text old new = new ≡ old
+Wrote status.WriteFault text old new = (n : ℕ) × (n ≤ length text) × Appends old new (take n text)
+Wrote _ text old new = Appends old new text
+
+-- The texts of words.
+abbrev pub texts : List (String Global) → List (List ℕ)
+texts words = map string_bytes words
+
+-- A status with which nothing is written.
+abbrev pub IsQuiet : Status → Type 0
+IsQuiet status.ReadFault = Unit {0}
+IsQuiet status.OutOfMemory = Unit {0}
+IsQuiet _ = ⊥

@@ -1,17 +1,17 @@
 // The top call.
 
-ghost use Rattle.std.specs.Prelude.{◌≡◌, ◌≤◌, ◌⊎◌, IfOk, IfErr, IfSome, IsErrOf, IsSomeAnd};
+ghost use Rattle.std.specs.Prelude.{◌≡◌, ◌≢◌, ◌≤◌, ◌⊎◌, false, IfOk, IfErr, IfSome, IsErrOf, IsSomeAnd};
 ghost use Rattle.rw_edge.specs.Count.{Faulted};
 ghost use Rattle.rw_edge.specs.Files.{contents_of};
 ghost use Rattle.verify_command.specs.Lines.{limit_line};
-ghost use Rattle.verify_command.specs.Reports.{IsSpoken, seen, nothing_read, notes_report, verify_report};
+ghost use Rattle.verify_command.specs.Reports.{IsSpoken, IsQuiet, Comes, Wrote, texts, seen, nothing_read, words_refused, notes_report, verify_report, is_listed, report};
 
 use crate::judge::judge;
 use crate::line::limit_line;
 use crate::report::{Report, Stop};
 use crate::status::Status;
 use outline_check::LimitWord;
-use rw_edge::{ReadFault, Shelf, read_file};
+use rw_edge::{Failed, ReadFault, Shelf, Sink, emit, read_file};
 use std::alloc::{AllocError, Global};
 
 /// The most bytes of a module file.
@@ -68,5 +68,88 @@ fn verify<S: Shelf>(
         Err(ReadFault::TooLong) => Ok(too_long(alloc, LimitWord::Module, MODULE_LIMIT)?),
         Err(ReadFault::Failed) => Err(Stop::Read),
         Err(ReadFault::OutOfMemory) => Err(Stop::Memory),
+    }
+}
+
+// Writes a text whole, and comes to the status, or to a write fault.
+fn written<K: Sink>(text: &[u8], status: Status, sink: &mut K) -> Status
+    requires { IsSpoken status ⊎ (status ≡ Status.Words) }
+    ensures comes { (result ≡ status) ⊎ ((result ≡ Status.WriteFault) × Faulted (K.faults sink.old) (K.faults sink.new)) }
+    ensures wrote { Wrote result text.now (K.written sink.old) (K.written sink.new) }
+{
+    match emit(sink, text) {
+        Ok(()) => status,
+        Err(Failed) => Status::WriteFault,
+    }
+}
+
+// Words of no listed form. It takes no memory.
+fn refused<K: Sink>(sink: &mut K) -> Status
+    ensures comes { (result ≡ Status.Words) ⊎ ((result ≡ Status.WriteFault) × Faulted (K.faults sink.old) (K.faults sink.new)) }
+    ensures wrote { Wrote result words_refused.text (K.written sink.old) (K.written sink.new) }
+{
+    written(b"words refused\n", Status::Words, sink)
+}
+
+// `verify MODULE NOTES`.
+fn listed<S: Shelf, K: Sink>(
+    alloc: Global,
+    module: &str,
+    notes: &str,
+    shelf: &mut S,
+    sink: &mut K,
+) -> Status
+    ensures read { result ≡ Status.ReadFault → Faulted (S.faults shelf.old) (S.faults shelf.new)
+        ⊎ IsSomeAnd (S.files shelf.old) (λ files. verify_report files «module».now notes.now ≡ nothing_read) }
+    ensures write { result ≡ Status.WriteFault → Faulted (K.faults sink.old) (K.faults sink.new) }
+    ensures comes { IfSome (S.files shelf.old) (λ files. Comes result (verify_report files «module».now notes.now).status
+        (Faulted (S.faults shelf.old) (S.faults shelf.new)) (Faulted (K.faults sink.old) (K.faults sink.new))) }
+    ensures wrote { IfSome (S.files shelf.old) (λ files. Wrote result (verify_report files «module».now notes.now).text (K.written sink.old) (K.written sink.new)) }
+    ensures quiet { IsQuiet result → K.written sink.new ≡ K.written sink.old }
+    ensures listed { result ≢ Status.Words }
+{
+    match verify(alloc, module, notes, shelf) {
+        Ok(report) => written(report.text.as_slice(), report.status, sink),
+        Err(Stop::Read) => Status::ReadFault,
+        Err(Stop::Memory) => Status::OutOfMemory,
+    }
+}
+
+/// Does what the words ask, over the shelf's files, and writes the report to the sink. The whole report is made before
+/// the first write.
+pub fn run<S: Shelf, K: Sink>(
+    alloc: Global,
+    words: &Vec<String>,
+    shelf: &mut S,
+    sink: &mut K,
+) -> Status
+    // Words of no listed form are refused without want of memory, and no others are.
+    ensures refused { is_listed (texts words.now.items) ≡ false → (result ≡ Status.Words)
+        ⊎ ((result ≡ Status.WriteFault) × Faulted (K.faults sink.old) (K.faults sink.new)) }
+    ensures words { result ≡ Status.Words → is_listed (texts words.now.items) ≡ false }
+    ensures refusal { is_listed (texts words.now.items) ≡ false → Wrote result words_refused.text (K.written sink.old) (K.written sink.new) }
+
+    // A fault is the outside's own, or a name that the told files lack.
+    ensures read { result ≡ Status.ReadFault → Faulted (S.faults shelf.old) (S.faults shelf.new)
+        ⊎ IsSomeAnd (S.files shelf.old) (λ files. report (texts words.now.items) files ≡ nothing_read) }
+    ensures write { result ≡ Status.WriteFault → Faulted (K.faults sink.old) (K.faults sink.new) }
+
+    // Over told files the status and the text are those of the report, but for faults and want of memory.
+    ensures comes { IfSome (S.files shelf.old) (λ files. Comes result (report (texts words.now.items) files).status
+        (Faulted (S.faults shelf.old) (S.faults shelf.new)) (Faulted (K.faults sink.old) (K.faults sink.new))) }
+    ensures wrote { IfSome (S.files shelf.old) (λ files. Wrote result (report (texts words.now.items) files).text (K.written sink.old) (K.written sink.new)) }
+
+    // Nothing is written where there is no report.
+    ensures quiet { IsQuiet result → K.written sink.new ≡ K.written sink.old }
+{
+    match words.as_slice() {
+        [word, module, notes] => {
+            if word.as_str() == "verify" {
+                listed(alloc, module.as_str(), notes.as_str(), shelf, sink)
+            } else {
+                refused(sink)
+            }
+        }
+        _ => refused(sink),
     }
 }
