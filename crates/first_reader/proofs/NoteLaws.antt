@@ -462,7 +462,7 @@ both : (a b : Bool) → (a && b) ≡ true → (a ≡ true) × (b ≡ true)
 both true b e = (refl, e)
 both false b e = absurd cc
 
-found : (text : List ℕ) (a : Notes) → first_notes text ≡ Some a → IsFirstText text a
+pub found : (text : List ℕ) (a : Notes) → first_notes text ≡ Some a → IsFirstText text a
 unfolding first_notes
 found text a e =
     let b = bind_some (notes_at (lexemes text)) (λ a. cond (leb (length a.invariant.formulas) 1000 && has_few_moves a) (Some a) None) a e in

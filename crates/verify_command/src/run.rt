@@ -4,6 +4,7 @@ ghost use Rattle.std.specs.Prelude.{◌≡◌, ◌≢◌, ◌≤◌, ◌⊎◌, 
 ghost use Rattle.rw_edge.specs.Count.{Faulted};
 ghost use Rattle.rw_edge.specs.Files.{contents_of};
 ghost use Rattle.verify_command.specs.Lines.{limit_line};
+ghost use Rattle.verify_command.specs.Accepted.{IsAccepted};
 ghost use Rattle.verify_command.specs.Reports.{IsSpoken, IsQuiet, Comes, Wrote, texts, seen, nothing_read, words_refused, notes_report, verify_report, is_listed, report};
 
 use crate::judge::judge;
@@ -115,6 +116,37 @@ fn listed<S: Shelf, K: Sink>(
     }
 }
 
+// Does what the words ask, or refuses them.
+fn act<S: Shelf, K: Sink>(
+    alloc: Global,
+    words: &Vec<String>,
+    shelf: &mut S,
+    sink: &mut K,
+) -> Status
+    ensures refused { is_listed (texts words.now.items) ≡ false → (result ≡ Status.Words)
+        ⊎ ((result ≡ Status.WriteFault) × Faulted (K.faults sink.old) (K.faults sink.new)) }
+    ensures words { result ≡ Status.Words → is_listed (texts words.now.items) ≡ false }
+    ensures refusal { is_listed (texts words.now.items) ≡ false → Wrote result words_refused.text (K.written sink.old) (K.written sink.new) }
+    ensures read { result ≡ Status.ReadFault → Faulted (S.faults shelf.old) (S.faults shelf.new)
+        ⊎ IsSomeAnd (S.files shelf.old) (λ files. report (texts words.now.items) files ≡ nothing_read) }
+    ensures write { result ≡ Status.WriteFault → Faulted (K.faults sink.old) (K.faults sink.new) }
+    ensures comes { IfSome (S.files shelf.old) (λ files. Comes result (report (texts words.now.items) files).status
+        (Faulted (S.faults shelf.old) (S.faults shelf.new)) (Faulted (K.faults sink.old) (K.faults sink.new))) }
+    ensures wrote { IfSome (S.files shelf.old) (λ files. Wrote result (report (texts words.now.items) files).text (K.written sink.old) (K.written sink.new)) }
+    ensures quiet { IsQuiet result → K.written sink.new ≡ K.written sink.old }
+{
+    match words.as_slice() {
+        [word, module, notes] => {
+            if word.as_str() == "verify" {
+                listed(alloc, module.as_str(), notes.as_str(), shelf, sink)
+            } else {
+                refused(sink)
+            }
+        }
+        _ => refused(sink),
+    }
+}
+
 /// Does what the words ask, over the shelf's files, and writes the report to the sink. The whole report is made before
 /// the first write.
 pub fn run<S: Shelf, K: Sink>(
@@ -139,17 +171,13 @@ pub fn run<S: Shelf, K: Sink>(
         (Faulted (S.faults shelf.old) (S.faults shelf.new)) (Faulted (K.faults sink.old) (K.faults sink.new))) }
     ensures wrote { IfSome (S.files shelf.old) (λ files. Wrote result (report (texts words.now.items) files).text (K.written sink.old) (K.written sink.new)) }
 
+    // Over told files `Good` comes exactly where the files are accepted, but for faults and want of memory.
+    ensures good { result ≡ Status.Good → IfSome (S.files shelf.old) (λ files. IsAccepted (texts words.now.items) files) }
+    ensures complete { IfSome (S.files shelf.old) (λ files. IsAccepted (texts words.now.items) files → Comes result Status.Good
+        (Faulted (S.faults shelf.old) (S.faults shelf.new)) (Faulted (K.faults sink.old) (K.faults sink.new))) }
+
     // Nothing is written where there is no report.
     ensures quiet { IsQuiet result → K.written sink.new ≡ K.written sink.old }
 {
-    match words.as_slice() {
-        [word, module, notes] => {
-            if word.as_str() == "verify" {
-                listed(alloc, module.as_str(), notes.as_str(), shelf, sink)
-            } else {
-                refused(sink)
-            }
-        }
-        _ => refused(sink),
-    }
+    act(alloc, words, shelf, sink)
 }
