@@ -13,7 +13,6 @@ pub record Reads {A : Type 0} (read : List ℕ → Option (A × List ℕ)) (spel
   pub again : (x : A) (rest : List ℕ) → IsSmall x → read (spell x ++ rest) ≡ Some (x, rest)
 
 module _ {A : Type 0} (read : List ℕ → Option (A × List ℕ)) (spell : A → List ℕ) (IsSmall : A → Type 0) (reads : Reads read spell IsSmall) where
-
   many_takes : (n : ℕ) (bytes : List ℕ) (x : List A × List ℕ) → many read n bytes ≡ Some x → (bytes ≡ flat_map spell x.0 ++ x.1) × (length x.0 ≡ n) × AllByRecursion IsSmall x.0
   unfolding many
   many_takes zero bytes x e =
@@ -24,7 +23,7 @@ module _ {A : Type 0} (read : List ℕ → Option (A × List ℕ)) (spell : A �
       let first = reads.takes bytes a.0 a.1 in
       let others = many_takes n a.0.1 b.0 b.1 in
       let parts : bytes ≡ flat_map spell (a.0.0 ∷ b.0.0) ++ b.0.1 =
-          first.0 ∙ ap (λ (r : List ℕ). spell a.0.0 ++ r) others.0 ∙ sym (append_assoc (spell a.0.0) (flat_map spell b.0.0) b.0.1) ∙ ap (λ (r : List ℕ). r ++ b.0.1) (sym (flat_map-cons spell a.0.0 b.0.0)) in
+      first.0 ∙ ap (λ (r : List ℕ). spell a.0.0 ++ r) others.0 ∙ sym (append_assoc (spell a.0.0) (flat_map spell b.0.0) b.0.1) ∙ ap (λ (r : List ℕ). r ++ b.0.1) (sym (flat_map-cons spell a.0.0 b.0.0)) in
       subst (λ (y : List A × List ℕ). (bytes ≡ flat_map spell y.0 ++ y.1) × (length y.0 ≡ suc n) × AllByRecursion IsSmall y.0) (some_is (a.0.0 ∷ b.0.0, b.0.1) x b.2)
       (parts, ap suc others.1, (first.1, others.2))
 
@@ -44,7 +43,7 @@ module _ {A : Type 0} (read : List ℕ → Option (A × List ℕ)) (spell : A �
       let m = many_takes a.0.0 a.0.1 b.0 b.1 in
       let c = ended_takes b.0.0 b.0.1 xs b.2 in
       let parts : bytes ≡ vector spell b.0.0 =
-          n.0 ∙ ap (λ (r : List ℕ). a.0.0 ∷ r) (m.0 ∙ ap (λ (r : List ℕ). flat_map spell b.0.0 ++ r) c.0 ∙ append-nil (flat_map spell b.0.0)) ∙ ap (λ (k : ℕ). k ∷ flat_map spell b.0.0) (sym m.1) in
+      n.0 ∙ ap (λ (r : List ℕ). a.0.0 ∷ r) (m.0 ∙ ap (λ (r : List ℕ). flat_map spell b.0.0 ++ r) c.0 ∙ append-nil (flat_map spell b.0.0)) ∙ ap (λ (k : ℕ). k ∷ flat_map spell b.0.0) (sym m.1) in
       subst (λ (y : List A). (bytes ≡ vector spell y) × (length y < 128) × AllByRecursion IsSmall y) c.1 (parts, omega (arith, m.1, n.1), m.2)
 
   entries_again : (xs : List A) → length xs < 128 → AllByRecursion IsSmall xs → entries_at read (vector spell xs) ≡ Some xs
@@ -63,7 +62,7 @@ module _ {A : Type 0} (read : List ℕ → Option (A × List ℕ)) (spell : A �
       let s = sized_takes a.0 b.0 b.1 in
       let t = entries_take b.0.0 c.0 c.1 in
       let parts : bytes ≡ section id spell c.0 ++ b.0.1 =
-          after_takes (id ∷ []) bytes a.0 a.1 ∙ ap (λ (r : List ℕ). id ∷ r) (s.0 ∙ ap (λ (r : List ℕ). sized r ++ b.0.1) t.0) in
+      after_takes (id ∷ []) bytes a.0 a.1 ∙ ap (λ (r : List ℕ). id ∷ r) (s.0 ∙ ap (λ (r : List ℕ). sized r ++ b.0.1) t.0) in
       let small : length (vector spell c.0) < 128 = subst (λ (r : List ℕ). length r < 128) t.0 s.1 in
       subst (λ (y : List A × List ℕ). (bytes ≡ section id spell y.0 ++ y.1) × IsSmallSection spell y.0 × AllByRecursion IsSmall y.0) (some_is (c.0, b.0.1) x c.2)
       (parts, (t.1, small), t.2)

@@ -120,13 +120,13 @@ instrs_take (suc n) bytes is e =
     elim (ended_or (is_end bytes) _ is e) [
       | inl p ↦ subst (λ (y : List Instr). (bytes ≡ expr_bytes y) × AreSmallInstrs y) p.1 (end_takes bytes p.0, tt)
       | inr e ↦
-        let a = bind_some (instr_at bytes) (λ first. instrs_at n first.1 >>= λ others. Some (first.0 ∷ others)) is e in
-        let b = bind_some (instrs_at n a.0.1) (λ others. Some (a.0.0 ∷ others)) is a.2 in
-        let first = instr_takes bytes a.0 a.1 in
-        let others = instrs_take n a.0.1 b.0 b.1 in
-        let parts : bytes ≡ expr_bytes (a.0.0 ∷ b.0) =
-            first.0 ∙ ap (λ (r : List ℕ). instr_bytes a.0.0 ++ r) others.0 ∙ sym (append_assoc (instr_bytes a.0.0) (flat_map instr_bytes b.0) (11 ∷ [])) ∙ ap (λ (r : List ℕ). r ++ 11 ∷ []) (sym (flat_map-cons instr_bytes a.0.0 b.0)) in
-        subst (λ (y : List Instr). (bytes ≡ expr_bytes y) × AreSmallInstrs y) (some_is (a.0.0 ∷ b.0) is b.2) (parts, (first.1, others.1))
+          let a = bind_some (instr_at bytes) (λ first. instrs_at n first.1 >>= λ others. Some (first.0 ∷ others)) is e in
+          let b = bind_some (instrs_at n a.0.1) (λ others. Some (a.0.0 ∷ others)) is a.2 in
+          let first = instr_takes bytes a.0 a.1 in
+          let others = instrs_take n a.0.1 b.0 b.1 in
+          let parts : bytes ≡ expr_bytes (a.0.0 ∷ b.0) =
+          first.0 ∙ ap (λ (r : List ℕ). instr_bytes a.0.0 ++ r) others.0 ∙ sym (append_assoc (instr_bytes a.0.0) (flat_map instr_bytes b.0) (11 ∷ [])) ∙ ap (λ (r : List ℕ). r ++ 11 ∷ []) (sym (flat_map-cons instr_bytes a.0.0 b.0)) in
+          subst (λ (y : List Instr). (bytes ≡ expr_bytes y) × AreSmallInstrs y) (some_is (a.0.0 ∷ b.0) is b.2) (parts, (first.1, others.1))
     ]
 
 -- a first instruction is no end of the body
@@ -162,16 +162,18 @@ flat_short [] small = (omega arith, omega arith)
 flat_short (i ∷ is) small =
     let one = flat_small i small.0 in
     let others = flat_short is small.1 in
-    rw (flat_map-cons flat_of i is, flat_map-cons instr_bytes i is)
-    (omega (arith, one.0, one.1, others.0, length-append (flat_of i) (flat is), length-append (instr_bytes i) (flat_map instr_bytes is)),
-     omega (arith, one.0, one.1, others.1, length-append (instr_bytes i) (flat_map instr_bytes is)))
+    rw (flat_map-cons flat_of i is, flat_map-cons instr_bytes i is) (
+      omega (arith, one.0, one.1, others.0, length-append (flat_of i) (flat is), length-append (instr_bytes i) (flat_map instr_bytes is)),
+      omega (arith, one.0, one.1, others.1, length-append (instr_bytes i) (flat_map instr_bytes is)),
+    )
 
 -- a body has no more items than bytes
 pub body_short : (is : List Instr) → AreSmallInstrs is → (length (flat_body is) ≤ length (expr_bytes is)) × (length is < length (expr_bytes is))
 body_short is small =
-    let short = flat_short is small in
-    (omega (arith, short.0, length-append (flat is) (End ∷ []), length-append (flat_map instr_bytes is) (11 ∷ [])),
-     omega (arith, short.1, length-append (flat_map instr_bytes is) (11 ∷ [])))
+    let short = flat_short is small in (
+      omega (arith, short.0, length-append (flat is) (End ∷ []), length-append (flat_map instr_bytes is) (11 ∷ [])),
+      omega (arith, short.1, length-append (flat_map instr_bytes is) (11 ∷ [])),
+    )
 
 -- a body has as many items as instructions
 pub flat_length : (is : List Instr) → AreSmallInstrs is → length (flat is) ≡ length is

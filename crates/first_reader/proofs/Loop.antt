@@ -16,7 +16,6 @@ regroup front n (Some x) = ap (λ ns. Some (ns, x.1)) (simp append_assoc)
 regroup front n None = refl
 
 module _ {A : Type 0} (read : List ℕ → Option (A × List ℕ)) (front : List A) (count i : ℕ) (bytes : List ℕ) (total : Option (List A × List ℕ)) (so_far : with_front front (many read (count - i) bytes) ≡ total) where
-
   pub goes_on : (n : A) (rest : List ℕ) → i < count → read bytes ≡ Some (n, rest) → with_front (front ++ n ∷ []) (many read (count - (i + 1)) rest) ≡ total
   unfolding many
   goes_on n rest lt h =
@@ -53,7 +52,6 @@ onto_more front n (Some x) = ap Some (simp append_assoc)
 onto_more front n None = refl
 
 module _ (front : List Instr) (most i : ℕ) (bytes : List ℕ) (total : Option (List Instr)) (lt : i < most) (so_far : onto front (instrs_at (most - i) bytes) ≡ total) where
-
   step : most - i ≡ suc (most - (i + 1))
   step = omega arith
 

@@ -10,7 +10,6 @@ use Rattle.first_reader.specs.ReadingLexemes.{many_from, many_at}
 use Rattle.first_reader.proofs.Loop.{with_front, regroup}
 
 module _ {A : Type 0} (begins : List Lexeme → Bool) (read : List Lexeme → Option (A × List Lexeme)) where
-
   abbrev Others : Type 0
   Others = List Lexeme → Option (List A × List Lexeme)
 

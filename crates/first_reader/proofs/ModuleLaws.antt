@@ -91,7 +91,7 @@ reads_globals = record {
       let c = bind_some (after (11 ∷ []) b.0.1) (λ others. Some (new_global b.0.0, others)) x b.2 in
       let t = constant_takes a.0 b.0 b.1 in
       let parts : bytes ≡ global_bytes (new_global b.0.0) ++ c.0 =
-          after_takes (127 ∷ 1 ∷ 65 ∷ []) bytes a.0 a.1 ∙ ap (λ (r : List ℕ). 127 ∷ 1 ∷ 65 ∷ r) (t.0 ∙ ap (λ (r : List ℕ). b.0.0 % 128 ∷ r) (after_takes (11 ∷ []) b.0.1 c.0 c.1)) in
+      after_takes (127 ∷ 1 ∷ 65 ∷ []) bytes a.0 a.1 ∙ ap (λ (r : List ℕ). 127 ∷ 1 ∷ 65 ∷ r) (t.0 ∙ ap (λ (r : List ℕ). b.0.0 % 128 ∷ r) (after_takes (11 ∷ []) b.0.1 c.0 c.1)) in
       subst (λ (y : Global × List ℕ). (bytes ≡ global_bytes y.0 ++ y.1) × IsReadGlobal y.0) (some_is (new_global b.0.0, c.0) x c.2) (parts, (b.0.0, refl, t.1));
   again = λ g rest small.
       subst (λ (h : Global). global_at (global_bytes h ++ rest) ≡ Some (h, rest)) (sym small.1)
@@ -110,7 +110,7 @@ export_takes bytes x e =
     let s = name_takes bytes a.0 a.1 in
     let n = number_takes b.0 c.0 c.1 in
     let parts : bytes ≡ export_bytes (new_export a.0.0 c.0.0) ++ c.0.1 =
-        s.0 ∙ ap (λ (r : List ℕ). sized a.0.0 ++ r) (after_takes (0 ∷ []) a.0.1 b.0 b.1 ∙ ap (λ (r : List ℕ). 0 ∷ r) n.0) ∙ sym (append_assoc (sized a.0.0) (0 ∷ c.0.0 ∷ []) c.0.1) in
+    s.0 ∙ ap (λ (r : List ℕ). sized a.0.0 ++ r) (after_takes (0 ∷ []) a.0.1 b.0 b.1 ∙ ap (λ (r : List ℕ). 0 ∷ r) n.0) ∙ sym (append_assoc (sized a.0.0) (0 ∷ c.0.0 ∷ []) c.0.1) in
     subst (λ (y : Export × List ℕ). (bytes ≡ export_bytes y.0 ++ y.1) × IsSmallExport y.0) (some_is (new_export a.0.0 c.0.0, c.0.1) x c.2)
     (parts, record { name = s.2; len = s.1; kind = n.1 })
 
@@ -225,7 +225,7 @@ module_takes bytes m e =
     let typed : section 3 type_bytes b.0.0 ≡ section 3 func_type_bytes f.0.0 = types_section b.0.0 f.0.0 same types.2 funcs.2 in
     let last : d.0.1 ≡ section 10 code_bytes f.0.0 = funcs.0 ∙ ap (λ r. section 10 code_bytes f.0.0 ++ r) whole.0 ∙ append-nil (section 10 code_bytes f.0.0) in
     let parts : bytes ≡ first_bytes (new_module c.0.0 d.0.0 f.0.0) =
-        after_takes head_bytes bytes a.0 a.1 ∙ ap (λ r. head_bytes ++ r) (types.0 ∙ ap (λ r. r ++ b.0.1) typed ∙ ap (λ r. section 3 func_type_bytes f.0.0 ++ r) (globals.0 ∙ ap (λ r. section 6 global_bytes c.0.0 ++ r) (exports.0 ∙ ap (λ r. section 7 export_bytes d.0.0 ++ r) last))) in
+    after_takes head_bytes bytes a.0 a.1 ∙ ap (λ r. head_bytes ++ r) (types.0 ∙ ap (λ r. r ++ b.0.1) typed ∙ ap (λ r. section 3 func_type_bytes f.0.0 ++ r) (globals.0 ∙ ap (λ r. section 6 global_bytes c.0.0 ++ r) (exports.0 ∙ ap (λ r. section 7 export_bytes d.0.0 ++ r) last))) in
     let small : IsSmallSection func_type_bytes f.0.0 = (subst (λ n. n < 128) same types.1.0, subst (λ r. length r < 128) (contents_same b.0.0 f.0.0 same types.2 funcs.2) types.1.1) in
     subst (λ (y : Module). (bytes ≡ first_bytes y) × IsRead y) whole.1
     (parts, record { form = refl; globals = globals.2; exports = exports.2; funcs = funcs.2; func_section = small; global_section = globals.1; export_section = exports.1; code_section = funcs.1 })
@@ -255,7 +255,7 @@ module_again m h =
     let after_types = section 6 global_bytes m.globals ++ after_globals in
     let e1 : after head_bytes (first_bytes m) ≡ Some (section 3 func_type_bytes m.funcs ++ after_types) = after_again head_bytes (section 3 func_type_bytes m.funcs ++ after_types) in
     let e2 : section_at 3 func_type_at (section 3 func_type_bytes m.funcs ++ after_types) ≡ Some (ts, after_types) =
-        subst (λ r. section_at 3 func_type_at (r ++ after_types) ≡ Some (ts, after_types)) typed (section_again func_type_at type_bytes IsOnlyType reads_types 3 ts after_types small (zeros_zero m.funcs)) in
+    subst (λ r. section_at 3 func_type_at (r ++ after_types) ≡ Some (ts, after_types)) typed (section_again func_type_at type_bytes IsOnlyType reads_types 3 ts after_types small (zeros_zero m.funcs)) in
     let e3 = section_again global_at global_bytes IsReadGlobal reads_globals 6 m.globals after_globals h.global_section h.globals in
     let e4 = section_again export_at export_bytes IsSmallExport reads_exports 7 m.exports after_exports h.export_section h.exports in
     let e5 : section_at 10 func_at after_exports ≡ Some (m.funcs, []) = ap (section_at 10 func_at) (sym (append-nil after_exports)) ∙ section_again func_at code_bytes IsReadFunc reads_funcs 10 m.funcs [] h.code_section h.funcs in

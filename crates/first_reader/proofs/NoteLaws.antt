@@ -57,7 +57,7 @@ formula_takes parts x e =
     let n = u32_takes b.0 c.0 c.1 in
     let made : Formula × S = (record { global = c.0.0; value = f.0.0 }, g.0) in
     let whole : parts ≡ formula_parts made.0 ++ g.0 =
-        head_takes (codes "=") parts a.0 a.1 ∙ ap (λ (r : S). Open ∷ Word (codes "=") ∷ r) (head_takes (codes "global") a.0 b.0 b.1 ∙ ap (λ (r : S). Open ∷ Word (codes "global") ∷ r) (n.0 ∙ ap (λ (r : S). Number (pos c.0.0) ∷ r) (close_takes c.0.1 d.0 d.1 ∙ ap (λ (r : S). Close ∷ r) (number_takes d.0 f.0 f.1 ∙ ap (λ (r : S). Number f.0.0 ∷ r) (close_takes f.0.1 g.0 g.1))))) in
+    head_takes (codes "=") parts a.0 a.1 ∙ ap (λ (r : S). Open ∷ Word (codes "=") ∷ r) (head_takes (codes "global") a.0 b.0 b.1 ∙ ap (λ (r : S). Open ∷ Word (codes "global") ∷ r) (n.0 ∙ ap (λ (r : S). Number (pos c.0.0) ∷ r) (close_takes c.0.1 d.0 d.1 ∙ ap (λ (r : S). Close ∷ r) (number_takes d.0 f.0 f.1 ∙ ap (λ (r : S). Number f.0.0 ∷ r) (close_takes f.0.1 g.0 g.1))))) in
     subst (λ (y : Formula × S). (parts ≡ formula_parts y.0 ++ y.1) × IsNoteFormula y.0) (some_is made x g.2) (whole, n.1)
 
 pub formula_again : (f : Formula) (rest : S) → IsNoteFormula f → formula_at (formula_parts f ++ rest) ≡ Some (f, rest)
@@ -118,7 +118,7 @@ ref_takes parts x e =
     let d = bind_some (close_at c.0.1) (λ rest. Some (ref_of b.0.0 c.0.0, rest)) x c.2 in
     let n = u32_takes b.0.1 c.0 c.1 in
     let whole : parts ≡ ref_parts (ref_of b.0.0 c.0.0) ++ d.0 =
-        open_takes parts a.0 a.1 ∙ ap (λ (r : S). Open ∷ r) (ref_word_takes a.0 b.0 b.1 ∙ ap (λ (r : S). Word (ref_word b.0.0) ∷ r) (n.0 ∙ ap (λ (r : S). Number (pos c.0.0) ∷ r) (close_takes c.0.1 d.0 d.1))) ∙ ref_spelled b.0.0 c.0.0 d.0 in
+    open_takes parts a.0 a.1 ∙ ap (λ (r : S). Open ∷ r) (ref_word_takes a.0 b.0 b.1 ∙ ap (λ (r : S). Word (ref_word b.0.0) ∷ r) (n.0 ∙ ap (λ (r : S). Number (pos c.0.0) ∷ r) (close_takes c.0.1 d.0 d.1))) ∙ ref_spelled b.0.0 c.0.0 d.0 in
     subst (λ (y : Ref × S). (parts ≡ ref_parts y.0 ++ y.1) × IsNoteRef y.0) (some_is (ref_of b.0.0 c.0.0, d.0) x d.2) (whole, ref_good b.0.0 c.0.0 n.1)
 
 ref_again : (r : Ref) (rest : S) → IsNoteRef r → ref_at (ref_parts r ++ rest) ≡ Some (r, rest)
@@ -153,7 +153,7 @@ step_takes parts x e =
     let q = formula_takes b.0.1 c.0 c.1 in
     let l = list_takes opens ref_at ref_parts IsNoteRef reads_refs c.0.1 d.0 d.1 in
     let whole : parts ≡ step_parts made ++ g.0 =
-        open_takes parts a.0 a.1 ∙ ap (λ (r : S). Open ∷ r) (rule_takes a.0 b.0 b.1 ∙ ap (λ (r : S). Word (rule_word b.0.0) ∷ r) (q.0 ∙ ap (λ (r : S). formula_parts c.0.0 ++ r) (l.0 ∙ ap (λ (r : S). Open ∷ (flat_map ref_parts d.0.0 ++ (Close ∷ r))) (empty_takes d.0.1 f.0 f.1 ∙ ap (λ (r : S). Open ∷ Close ∷ r) (close_takes f.0 g.0 g.1))))) ∙ sym (step_spelled made g.0) in
+    open_takes parts a.0 a.1 ∙ ap (λ (r : S). Open ∷ r) (rule_takes a.0 b.0 b.1 ∙ ap (λ (r : S). Word (rule_word b.0.0) ∷ r) (q.0 ∙ ap (λ (r : S). formula_parts c.0.0 ++ r) (l.0 ∙ ap (λ (r : S). Open ∷ (flat_map ref_parts d.0.0 ++ (Close ∷ r))) (empty_takes d.0.1 f.0 f.1 ∙ ap (λ (r : S). Open ∷ Close ∷ r) (close_takes f.0 g.0 g.1))))) ∙ sym (step_spelled made g.0) in
     subst (λ (y : Step × S). (parts ≡ step_parts y.0 ++ y.1) × IsNoteStep y.0) (some_is (made, g.0) x g.2) (whole, record { formula = q.1; refs = l.1 })
 
 step_again : (s : Step) (rest : S) → IsNoteStep s → step_at (step_parts s ++ rest) ≡ Some (s, rest)
@@ -183,7 +183,7 @@ move_takes parts x e =
     let q = formula_takes a.0 b.0 b.1 in
     let m = many_takes opens step_at step_parts IsNoteStep reads_steps b.0.1 c.0 c.1 in
     let whole : parts ≡ move_parts (move.Have b.0.0 c.0.0) ++ d.0 =
-        head_takes (codes "have") parts a.0 a.1 ∙ ap (λ (r : S). Open ∷ Word (codes "have") ∷ r) (q.0 ∙ ap (λ (r : S). formula_parts b.0.0 ++ r) (m.0 ∙ ap (λ (r : S). flat_map step_parts c.0.0 ++ r) (close_takes c.0.1 d.0 d.1))) ∙ sym (have_spelled b.0.0 c.0.0 d.0) in
+    head_takes (codes "have") parts a.0 a.1 ∙ ap (λ (r : S). Open ∷ Word (codes "have") ∷ r) (q.0 ∙ ap (λ (r : S). formula_parts b.0.0 ++ r) (m.0 ∙ ap (λ (r : S). flat_map step_parts c.0.0 ++ r) (close_takes c.0.1 d.0 d.1))) ∙ sym (have_spelled b.0.0 c.0.0 d.0) in
     let some_steps : 1 ≤ length c.0.0 = omega (arith, ltb-true _ _ p.0) in
     subst (λ (y : Move × S). (parts ≡ move_parts y.0 ++ y.1) × IsNoteMove y.0) p.1 (whole, (q.1, some_steps, m.1))
 
@@ -220,7 +220,7 @@ with_takes parts x e =
     let made : With = record { facts = c.0.0 } in
     let l = list_takes counts u32_at natural IsNatural reads_numbers b.0 c.0 c.1 in
     let whole : parts ≡ with_parts made ++ f.0 =
-        head_takes (codes "with") parts a.0 a.1 ∙ ap (λ (r : S). Open ∷ Word (codes "with") ∷ r) (empty_takes a.0 b.0 b.1 ∙ ap (λ (r : S). Open ∷ Close ∷ r) (l.0 ∙ ap (λ (r : S). Open ∷ (flat_map natural c.0.0 ++ (Close ∷ r))) (empty_takes c.0.1 d.0 d.1 ∙ ap (λ (r : S). Open ∷ Close ∷ r) (close_takes d.0 f.0 f.1)))) ∙ sym (with_spelled made f.0) in
+    head_takes (codes "with") parts a.0 a.1 ∙ ap (λ (r : S). Open ∷ Word (codes "with") ∷ r) (empty_takes a.0 b.0 b.1 ∙ ap (λ (r : S). Open ∷ Close ∷ r) (l.0 ∙ ap (λ (r : S). Open ∷ (flat_map natural c.0.0 ++ (Close ∷ r))) (empty_takes c.0.1 d.0 d.1 ∙ ap (λ (r : S). Open ∷ Close ∷ r) (close_takes d.0 f.0 f.1)))) ∙ sym (with_spelled made f.0) in
     subst (λ (y : With × S). (parts ≡ with_parts y.0 ++ y.1) × IsNoteWith y.0) (some_is (made, f.0) x f.2) (whole, l.1)
 
 with_again : (w : With) (rest : S) → IsNoteWith w → with_at (with_parts w ++ rest) ≡ Some (w, rest)
@@ -270,7 +270,7 @@ note_takes parts x e =
     let m = many_takes moves move_at move_parts IsNoteMove reads_moves b.0.1 c.0 c.1 in
     let u = use_takes c.0.1 d.0 d.1 in
     let whole : parts ≡ note_parts made ++ f.0 =
-        head_takes (codes "at") parts a.0 a.1 ∙ ap (λ (r : S). Open ∷ Word (codes "at") ∷ r) (n.0 ∙ ap (λ (r : S). Number (pos b.0.0) ∷ r) (m.0 ∙ ap (λ (r : S). flat_map move_parts c.0.0 ++ r) (u.0 ∙ ap (λ (r : S). use_parts d.0.0 ++ r) (close_takes d.0.1 f.0 f.1)))) ∙ sym (note_spelled made f.0) in
+    head_takes (codes "at") parts a.0 a.1 ∙ ap (λ (r : S). Open ∷ Word (codes "at") ∷ r) (n.0 ∙ ap (λ (r : S). Number (pos b.0.0) ∷ r) (m.0 ∙ ap (λ (r : S). flat_map move_parts c.0.0 ++ r) (u.0 ∙ ap (λ (r : S). use_parts d.0.0 ++ r) (close_takes d.0.1 f.0 f.1)))) ∙ sym (note_spelled made f.0) in
     subst (λ (y : Note × S). (parts ≡ note_parts y.0 ++ y.1) × IsNote y.0) (some_is (made, f.0) x f.2) (whole, record { at = n.1; moves = m.1; used = u.1 })
 
 note_again : (n : Note) (rest : S) → IsNote n → note_at (note_parts n ++ rest) ≡ Some (n, rest)
@@ -298,7 +298,7 @@ func_takes parts x e =
     let n = u32_takes a.0 b.0 b.1 in
     let m = many_takes opens note_at note_parts IsNote reads_notes b.0.1 c.0 c.1 in
     let whole : parts ≡ func_parts made ++ d.0 =
-        head_takes (codes "func") parts a.0 a.1 ∙ ap (λ (r : S). Open ∷ Word (codes "func") ∷ r) (n.0 ∙ ap (λ (r : S). Number (pos b.0.0) ∷ r) (m.0 ∙ ap (λ (r : S). flat_map note_parts c.0.0 ++ r) (close_takes c.0.1 d.0 d.1))) ∙ sym (func_spelled made d.0) in
+    head_takes (codes "func") parts a.0 a.1 ∙ ap (λ (r : S). Open ∷ Word (codes "func") ∷ r) (n.0 ∙ ap (λ (r : S). Number (pos b.0.0) ∷ r) (m.0 ∙ ap (λ (r : S). flat_map note_parts c.0.0 ++ r) (close_takes c.0.1 d.0 d.1))) ∙ sym (func_spelled made d.0) in
     subst (λ (y : FuncNotes × S). (parts ≡ func_parts y.0 ++ y.1) × IsFuncNotes y.0) (some_is (made, d.0) x d.2) (whole, record { func = n.1; notes = m.1 })
 
 func_again : (f : FuncNotes) (rest : S) → IsFuncNotes f → func_at (func_parts f ++ rest) ≡ Some (f, rest)
@@ -337,7 +337,7 @@ assertion_takes parts x e =
     let made : Assertion = record { formulas = c.0.0 } in
     let l = list_takes opens formula_at formula_parts IsNoteFormula reads_formulas b.0 c.0 c.1 in
     let whole : parts ≡ assertion_parts made ++ f.0 =
-        head_takes (codes "assert") parts a.0 a.1 ∙ ap (λ (r : S). Open ∷ Word (codes "assert") ∷ r) (only_takes 0 a.0 b.0 b.1 ∙ ap (λ (r : S). Number (pos 0) ∷ r) (l.0 ∙ ap (λ (r : S). Open ∷ (flat_map formula_parts c.0.0 ++ (Close ∷ r))) (empty_takes c.0.1 d.0 d.1 ∙ ap (λ (r : S). Open ∷ Close ∷ r) (close_takes d.0 f.0 f.1)))) ∙ sym (assertion_spelled made f.0) in
+    head_takes (codes "assert") parts a.0 a.1 ∙ ap (λ (r : S). Open ∷ Word (codes "assert") ∷ r) (only_takes 0 a.0 b.0 b.1 ∙ ap (λ (r : S). Number (pos 0) ∷ r) (l.0 ∙ ap (λ (r : S). Open ∷ (flat_map formula_parts c.0.0 ++ (Close ∷ r))) (empty_takes c.0.1 d.0 d.1 ∙ ap (λ (r : S). Open ∷ Close ∷ r) (close_takes d.0 f.0 f.1)))) ∙ sym (assertion_spelled made f.0) in
     subst (λ (y : Assertion × S). (parts ≡ assertion_parts y.0 ++ y.1) × AllByRecursion IsNoteFormula y.0.formulas) (some_is (made, f.0) x f.2) (whole, l.1)
 
 assertion_again : (a : Assertion) (rest : S) → AllByRecursion IsNoteFormula a.formulas → assertion_at (assertion_parts a ++ rest) ≡ Some (a, rest)
@@ -363,7 +363,7 @@ initial_takes parts x e =
     let l = list_takes moves move_at move_parts IsNoteMove reads_moves b.0 c.0 c.1 in
     let w = with_takes c.0.1 d.0 d.1 in
     let whole : parts ≡ initial_parts made ++ f.0 =
-        head_takes (codes "initial") parts a.0 a.1 ∙ ap (λ (r : S). Open ∷ Word (codes "initial") ∷ r) (empty_takes a.0 b.0 b.1 ∙ ap (λ (r : S). Open ∷ Close ∷ r) (l.0 ∙ ap (λ (r : S). Open ∷ (flat_map move_parts c.0.0 ++ (Close ∷ r))) (w.0 ∙ ap (λ (r : S). with_parts d.0.0 ++ r) (close_takes d.0.1 f.0 f.1)))) ∙ sym (initial_spelled made f.0) in
+    head_takes (codes "initial") parts a.0 a.1 ∙ ap (λ (r : S). Open ∷ Word (codes "initial") ∷ r) (empty_takes a.0 b.0 b.1 ∙ ap (λ (r : S). Open ∷ Close ∷ r) (l.0 ∙ ap (λ (r : S). Open ∷ (flat_map move_parts c.0.0 ++ (Close ∷ r))) (w.0 ∙ ap (λ (r : S). with_parts d.0.0 ++ r) (close_takes d.0.1 f.0 f.1)))) ∙ sym (initial_spelled made f.0) in
     subst (λ (y : Initial × S). (parts ≡ initial_parts y.0 ++ y.1) × AllByRecursion IsNoteMove y.0.moves × IsNoteWith y.0.with) (some_is (made, f.0) x f.2) (whole, l.1, w.1)
 
 initial_again : (i : Initial) (rest : S) → AllByRecursion IsNoteMove i.moves → IsNoteWith i.with → initial_at (initial_parts i ++ rest) ≡ Some (i, rest)
@@ -403,7 +403,7 @@ notes_take parts x e =
     let i = initial_takes c.0.1 d.0 d.1 in
     let m = many_takes opens func_at func_parts IsFuncNotes reads_funcs d.0.1 f.0 f.1 in
     let whole : parts ≡ notes_parts made =
-        head_takes (codes "notes") parts a.0 a.1 ∙ ap (λ (r : S). Open ∷ Word (codes "notes") ∷ r) (only_takes 1 a.0 b.0 b.1 ∙ ap (λ (r : S). Number (pos 1) ∷ r) (v.0 ∙ ap (λ (r : S). assertion_parts c.0.0 ++ r) (i.0 ∙ ap (λ (r : S). initial_parts d.0.0 ++ r) (m.0 ∙ ap (λ (r : S). flat_map func_parts f.0.0 ++ r) (close_takes f.0.1 g.0 g.1 ∙ ap (λ (r : S). Close ∷ r) z.0))))) ∙ sym (notes_spelled made) in
+    head_takes (codes "notes") parts a.0 a.1 ∙ ap (λ (r : S). Open ∷ Word (codes "notes") ∷ r) (only_takes 1 a.0 b.0 b.1 ∙ ap (λ (r : S). Number (pos 1) ∷ r) (v.0 ∙ ap (λ (r : S). assertion_parts c.0.0 ++ r) (i.0 ∙ ap (λ (r : S). initial_parts d.0.0 ++ r) (m.0 ∙ ap (λ (r : S). flat_map func_parts f.0.0 ++ r) (close_takes f.0.1 g.0 g.1 ∙ ap (λ (r : S). Close ∷ r) z.0))))) ∙ sym (notes_spelled made) in
     subst (λ (y : Notes). (parts ≡ notes_parts y) × AreNotes y) z.1 (whole, record { formulas = v.1; moves = i.1; with = i.2; funcs = m.1 })
 
 notes_again : (a : Notes) → AreNotes a → notes_at (notes_parts a) ≡ Some a
@@ -440,6 +440,7 @@ left_funcs left (f ∷ fs) = subst (Left (left_after_all left (f ∷ fs)) left) 
   then : (rest : ℕ) (r : Option ℕ) → rest + moves_in f.notes ≡ left → Left r rest (func_moves fs) → Left r left (moves_in f.notes + func_moves fs)
   then rest None e h = omega (arith, e, h)
   then rest (Some n) e h = omega (arith, e, h)
+
   by : (r : Option ℕ) → Left r left (moves_in f.notes) → ((rest : ℕ) → Left (left_after_all rest fs) rest (func_moves fs)) → Left (r >>= λ rest. left_after_all rest fs) left (moves_in f.notes + func_moves fs)
   by None h k = omega (arith, h)
   by (Some rest) h k = then rest (left_after_all rest fs) h (k rest)

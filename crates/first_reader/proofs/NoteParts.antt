@@ -98,7 +98,6 @@ pub record ReadsParts {A : Type 0} (begins : List Lexeme → Bool) (read : List 
   pub some : (x : A) → 1 ≤ length (spell x)
 
 module _ {A : Type 0} (begins : List Lexeme → Bool) (read : List Lexeme → Option (A × List Lexeme)) (spell : A → List Lexeme) (IsGood : A → Type 0) (reads : ReadsParts begins read spell IsGood) where
-
   abbrev Took : List Lexeme → List A × List Lexeme → Type 0
   Took parts x = (parts ≡ flat_map spell x.0 ++ x.1) × AllByRecursion IsGood x.0
 
@@ -119,14 +118,14 @@ module _ {A : Type 0} (begins : List Lexeme → Bool) (read : List Lexeme → Op
   many_from_takes (suc n) parts x e =
       at_more (begins parts) parts (read parts >>= λ first. cond (ltb (length first.1) (length parts)) (many_from begins read n first.1 >>= λ others. Some (first.0 ∷ others.0, others.1)) None) x
       (λ f.
-        let a = bind_some (read parts) (λ first. cond (ltb (length first.1) (length parts)) (many_from begins read n first.1 >>= λ others. Some (first.0 ∷ others.0, others.1)) None) x f in
-        let p = passed_then (ltb (length a.0.1) (length parts)) (many_from begins read n a.0.1 >>= λ others. Some (a.0.0 ∷ others.0, others.1)) x a.2 in
-        let b = bind_some (many_from begins read n a.0.1) (λ others. Some (a.0.0 ∷ others.0, others.1)) x p.1 in
-        let first = reads.takes parts a.0 a.1 in
-        let others = many_from_takes n a.0.1 b.0 b.1 in
-        let whole : parts ≡ flat_map spell (a.0.0 ∷ b.0.0) ++ b.0.1 =
-            first.0 ∙ ap (λ (r : List Lexeme). spell a.0.0 ++ r) others.0 ∙ sym (append_assoc (spell a.0.0) (flat_map spell b.0.0) b.0.1) ∙ ap (λ (r : List Lexeme). r ++ b.0.1) (sym (flat_map-cons spell a.0.0 b.0.0)) in
-        subst (Took parts) (some_is (a.0.0 ∷ b.0.0, b.0.1) x b.2) (whole, (first.1, others.1)))
+      let a = bind_some (read parts) (λ first. cond (ltb (length first.1) (length parts)) (many_from begins read n first.1 >>= λ others. Some (first.0 ∷ others.0, others.1)) None) x f in
+      let p = passed_then (ltb (length a.0.1) (length parts)) (many_from begins read n a.0.1 >>= λ others. Some (a.0.0 ∷ others.0, others.1)) x a.2 in
+      let b = bind_some (many_from begins read n a.0.1) (λ others. Some (a.0.0 ∷ others.0, others.1)) x p.1 in
+      let first = reads.takes parts a.0 a.1 in
+      let others = many_from_takes n a.0.1 b.0 b.1 in
+      let whole : parts ≡ flat_map spell (a.0.0 ∷ b.0.0) ++ b.0.1 =
+      first.0 ∙ ap (λ (r : List Lexeme). spell a.0.0 ++ r) others.0 ∙ sym (append_assoc (spell a.0.0) (flat_map spell b.0.0) b.0.1) ∙ ap (λ (r : List Lexeme). r ++ b.0.1) (sym (flat_map-cons spell a.0.0 b.0.0)) in
+      subst (Took parts) (some_is (a.0.0 ∷ b.0.0, b.0.1) x b.2) (whole, (first.1, others.1)))
       e
 
   pub many_takes : (parts : List Lexeme) (x : List A × List Lexeme) → many_at begins read parts ≡ Some x → (parts ≡ flat_map spell x.0 ++ x.1) × AllByRecursion IsGood x.0
@@ -149,7 +148,7 @@ module _ {A : Type 0} (begins : List Lexeme → Bool) (read : List Lexeme → Op
       let c = bind_some (close_at b.0.1) (λ others. Some (b.0.0, others)) x b.2 in
       let m = many_takes a.0 b.0 b.1 in
       let whole : parts ≡ Open ∷ (flat_map spell b.0.0 ++ (Close ∷ c.0)) =
-          open_takes parts a.0 a.1 ∙ ap (λ (r : List Lexeme). Open ∷ r) (m.0 ∙ ap (λ (r : List Lexeme). flat_map spell b.0.0 ++ r) (close_takes b.0.1 c.0 c.1)) in
+      open_takes parts a.0 a.1 ∙ ap (λ (r : List Lexeme). Open ∷ r) (m.0 ∙ ap (λ (r : List Lexeme). flat_map spell b.0.0 ++ r) (close_takes b.0.1 c.0 c.1)) in
       subst (λ (y : List A × List Lexeme). (parts ≡ Open ∷ (flat_map spell y.0 ++ (Close ∷ y.1))) × AllByRecursion IsGood y.0) (some_is (b.0.0, c.0) x c.2) (whole, m.1)
 
   pub list_again : (xs : List A) (rest : List Lexeme) → AllByRecursion IsGood xs → begins (Close ∷ rest) ≡ false → list_at begins read (Open ∷ (flat_map spell xs ++ (Close ∷ rest))) ≡ Some (xs, rest)

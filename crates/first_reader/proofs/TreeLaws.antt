@@ -206,36 +206,37 @@ first_parts gs es fs h e =
     let u = both (list_all (λ x. is_function (length fs) x.kind) es) (names_differ es) t.0 in
     let funcs = all_from (λ f. IsReadFunc f × (is_body (length gs) (Some 0) f.body ≡ true)) (IsFirstFunc 1 (length gs)) (λ f p. first_func (length gs) f p.0 p.1) fs (all_both IsReadFunc (λ f. is_body (length gs) (Some 0) f.body ≡ true) fs h.funcs (all_true (λ f. is_body (length gs) (Some 0) f.body) fs t.1)) in
     let globals = all_from IsReadGlobal IsFirstGlobal first_global gs h.globals in
-    let exports = all_from (λ x. IsSmallExport x × (is_function (length fs) x.kind ≡ true)) (IsFirstExport (length fs)) (λ x p. record { name = printed_bytes x.name p.0.name; kind = function_from (length fs) x.kind p.1 }) es (all_both IsSmallExport (λ x. is_function (length fs) x.kind ≡ true) es h.exports (all_true (λ x. is_function (length fs) x.kind) es u.0)) in
-    (record {
-      few_types = omega arith;
-      few_funcs = omega (arith, h.func_section.0);
-      few_globals = omega (arith, h.global_section.0);
-      few_exports = omega (arith, h.export_section.0);
-      types = All-from_recursion IsEmptyType (empty_type ∷ []) (record { params = refl; results = refl }, tt);
-      imports = refl;
-      funcs = All-from_recursion (IsFirstFunc 1 (length gs)) fs funcs;
-      tables = refl;
-      memories = refl;
-      globals = All-from_recursion IsFirstGlobal gs globals;
-      exports = All-from_recursion (IsFirstExport (length fs)) es exports;
-      names = apart_names es (apart_from es u.1);
-      start = refl;
-      elems = refl;
-      segments = refl;
-      customs = λ k d lt. absurd (omega arith);
-    },
-    record {
-      types = refl;
-      funcs = all_from IsReadFunc IsSmallFunc (λ f p. p.2) fs h.funcs;
-      globals = all_from IsReadGlobal IsSmallGlobal small_global gs h.globals;
-      exports = h.exports;
-      customs = refl;
-      func_section = h.func_section;
-      global_section = h.global_section;
-      export_section = h.export_section;
-      code_section = h.code_section;
-    })
+    let exports = all_from (λ x. IsSmallExport x × (is_function (length fs) x.kind ≡ true)) (IsFirstExport (length fs)) (λ x p. record { name = printed_bytes x.name p.0.name; kind = function_from (length fs) x.kind p.1 }) es (all_both IsSmallExport (λ x. is_function (length fs) x.kind ≡ true) es h.exports (all_true (λ x. is_function (length fs) x.kind) es u.0)) in (
+      record {
+        few_types = omega arith;
+        few_funcs = omega (arith, h.func_section.0);
+        few_globals = omega (arith, h.global_section.0);
+        few_exports = omega (arith, h.export_section.0);
+        types = All-from_recursion IsEmptyType (empty_type ∷ []) (record { params = refl; results = refl }, tt);
+        imports = refl;
+        funcs = All-from_recursion (IsFirstFunc 1 (length gs)) fs funcs;
+        tables = refl;
+        memories = refl;
+        globals = All-from_recursion IsFirstGlobal gs globals;
+        exports = All-from_recursion (IsFirstExport (length fs)) es exports;
+        names = apart_names es (apart_from es u.1);
+        start = refl;
+        elems = refl;
+        segments = refl;
+        customs = λ k d lt. absurd (omega arith);
+      },
+      record {
+        types = refl;
+        funcs = all_from IsReadFunc IsSmallFunc (λ f p. p.2) fs h.funcs;
+        globals = all_from IsReadGlobal IsSmallGlobal small_global gs h.globals;
+        exports = h.exports;
+        customs = refl;
+        func_section = h.func_section;
+        global_section = h.global_section;
+        export_section = h.export_section;
+        code_section = h.code_section;
+      },
+    )
 
 abbrev IsFirstAndSmall : Module → Type 0
 IsFirstAndSmall m = IsFirst m × IsSmallModule m
@@ -258,17 +259,19 @@ read_from m h small =
     let globals = all_from (λ g. IsFirstGlobal g × IsSmallGlobal g) IsReadGlobal (λ g p. read_global g p.0 p.1) m.globals (all_both IsFirstGlobal IsSmallGlobal m.globals (recursion_from_All IsFirstGlobal m.globals h.globals) small.globals) in
     let t1 = test_all (λ x. is_function (length m.funcs) x.kind) m.exports (all_from (IsFirstExport (length m.funcs)) (λ x. is_function (length m.funcs) x.kind ≡ true) (λ x p. function_test (length m.funcs) x.kind p.kind) m.exports (recursion_from_All (IsFirstExport (length m.funcs)) m.exports h.exports)) in
     let t2 = apart_test m.exports (apart_facts m.exports h.names) in
-    let t3 = test_all (λ f. is_body (length m.globals) (Some 0) f.body) m.funcs (all_from (λ f. IsFirstFunc 1 (length m.globals) f × IsSmallFunc f) (λ f. is_body (length m.globals) (Some 0) f.body ≡ true) (λ f p. body_test (length m.globals) 0 f.body p.1.body p.0.body) m.funcs (all_both (IsFirstFunc 1 (length m.globals)) IsSmallFunc m.funcs first_funcs small.funcs)) in
-    (record {
-      form = new_form m small.types h.imports h.tables h.memories h.start h.elems h.segments small.customs;
-      globals = globals;
-      exports = small.exports;
-      funcs = funcs;
-      func_section = small.func_section;
-      global_section = small.global_section;
-      export_section = small.export_section;
-      code_section = small.code_section;
-    }, rw (t1, t2, t3) refl)
+    let t3 = test_all (λ f. is_body (length m.globals) (Some 0) f.body) m.funcs (all_from (λ f. IsFirstFunc 1 (length m.globals) f × IsSmallFunc f) (λ f. is_body (length m.globals) (Some 0) f.body ≡ true) (λ f p. body_test (length m.globals) 0 f.body p.1.body p.0.body) m.funcs (all_both (IsFirstFunc 1 (length m.globals)) IsSmallFunc m.funcs first_funcs small.funcs)) in (
+      record {
+        form = new_form m small.types h.imports h.tables h.memories h.start h.elems h.segments small.customs;
+        globals = globals;
+        exports = small.exports;
+        funcs = funcs;
+        func_section = small.func_section;
+        global_section = small.global_section;
+        export_section = small.export_section;
+        code_section = small.code_section;
+      },
+      rw (t1, t2, t3) refl,
+    )
 
 -- ---- the bytes of the form
 
@@ -333,9 +336,10 @@ flat_count is small = omega (arith, length-append (flat is) (End ∷ []), flat_l
 
 place_each : (at : ℕ) (fs : List Func) → AllByRecursion IsSmallFunc fs → AllZip HasPlaceEach fs (code_places at fs)
 place_each at [] small = tt
-place_each at (f ∷ fs) small =
-    (omega (arith, length-append (places instr_bytes (at + 2) f.body) ((at + 2 + length (flat_map instr_bytes f.body)) ∷ []), places_length instr_bytes (at + 2) f.body, flat_count f.body small.0.body),
-     place_each (at + length (code_bytes f)) fs small.1)
+place_each at (f ∷ fs) small = (
+  omega (arith, length-append (places instr_bytes (at + 2) f.body) ((at + 2 + length (flat_map instr_bytes f.body)) ∷ []), places_length instr_bytes (at + 2) f.body, flat_count f.body small.0.body),
+  place_each (at + length (code_bytes f)) fs small.1,
+)
 
 pub is_placed : (bytes : List ℕ) (m : Module) (marks : Marks) → IsFirstBytes bytes m marks → HasPlaces m marks
 is_placed bytes m marks h = subst (λ k. HasPlaces m k) (sym h.marked) (place_each (code_at m + 3) m.funcs h.small.funcs)

@@ -47,11 +47,7 @@ fn entries<E: Entry>(alloc: Global, bytes: &[u8]) -> Result<List<E>, ReadError>
 
 /// The entries of a section.
 #[tactic(auto, unfolding(crate::specs::Reading::section_at))]
-pub fn section<E: Entry>(
-    alloc: Global,
-    id: u8,
-    bytes: &[u8],
-) -> Result<(List<E>, &[u8]), ReadError>
+pub fn section<E: Entry>(alloc: Global, id: u8, bytes: &[u8]) -> Result<(List<E>, &[u8]), ReadError>
     ensures { Gives (λ x. (x.0, x.1.now)) result (section_at id E.reads bytes.now) }
 {
     let rest = after(&[id], bytes)?;

@@ -16,7 +16,11 @@ fn constant_of(byte: u32) -> u32
     requires { byte < 128 }
     ensures { result ≡ constant_of byte }
 {
-    if byte < 64 { byte } else { byte + 4_294_967_168 }
+    if byte < 64 {
+        byte
+    } else {
+        byte + 4_294_967_168
+    }
 }
 
 /// The one byte of a constant.

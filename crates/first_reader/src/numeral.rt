@@ -44,13 +44,7 @@ pub fn numeral(bytes: &[u8]) -> Option<i128>
         [] => None,
         [b'-', digits @ ..] => match magnitude(digits) {
             None => None,
-            Some(n) => {
-                if n == 0 {
-                    None
-                } else {
-                    Some(-(n as i128))
-                }
-            }
+            Some(n) => { if n == 0 { None } else { Some(-(n as i128)) } }
         },
         _ => match magnitude(bytes) {
             None => None,

@@ -101,7 +101,7 @@ words_good words files h =
     let judged_fine = judged_good h.bytes h.text (record { «module» = a.«module»; marks = a.marks; notes = a.notes; read = a.read; said = a.noted; verified = a.verified }) in
     let notes_fine = contents_good notes_limit notes_too_long (judged h.bytes) (contents_of files h.notes) h.text h.notes_there a.short judged_fine in
     let fine : (verify_report files h.«module» h.notes).status ≡ status.Good =
-        contents_good module_limit module_too_long (λ bytes. notes_report bytes (contents_of files h.notes)) (contents_of files h.«module») h.bytes h.module_there a.few_bytes notes_fine in
+    contents_good module_limit module_too_long (λ bytes. notes_report bytes (contents_of files h.notes)) (contents_of files h.«module») h.bytes h.module_there a.few_bytes notes_fine in
     subst (λ ws. (report ws files).status ≡ status.Good) (sym h.words_are) fine
 
 -- ---- as clauses of a run

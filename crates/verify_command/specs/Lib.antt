@@ -1,5 +1,4 @@
 pub mod Statuses
 pub mod Lines
-
 pub mod Reports
 pub mod Accepted

@@ -32,12 +32,7 @@ fn answered(alloc: Global, answer: Answer) -> Result<Report, AllocError>
 }
 
 // The outline.
-fn outlined(
-    alloc: Global,
-    module: &Module,
-    marks: &Marks,
-    notes: &Notes,
-) -> Result<Report, Stop>
+fn outlined(alloc: Global, module: &Module, marks: &Marks, notes: &Notes) -> Result<Report, Stop>
     requires first { IsFirst «module».now }
     requires placed { HasPlaces «module».now marks.now }
     ensures made { IfOk result (λ r. seen r ≡ outlined (outline «module».now marks.now notes.now)) }

@@ -74,11 +74,7 @@ fn limit_text(word: LimitWord) -> &'static [u8]
     }
 }
 
-fn push_function(
-    alloc: Global,
-    text: &mut Vec<u8>,
-    function: Option<u32>,
-) -> Result<(), AllocError>
+fn push_function(alloc: Global, text: &mut Vec<u8>, function: Option<u32>) -> Result<(), AllocError>
     ensures { OnOk result (text.new.items ≡ text.old.items ++ function_text function) }
 {
     match function {

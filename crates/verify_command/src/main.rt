@@ -6,11 +6,12 @@ mod line;
 mod report;
 mod run;
 mod status;
+#[cfg(test)]
+mod tests;
 
 use rw_edge::{DirShelf, StdSink};
-use std::env;
-use std::io;
 use std::process::ExitCode;
+use std::{env, io};
 
 /// What the program ends with where its arguments can't be had.
 fn without_arguments(error: io::Error) -> ExitCode {

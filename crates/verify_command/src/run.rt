@@ -52,12 +52,7 @@ fn with_notes<S: Shelf>(
 }
 
 // `verify MODULE NOTES`: the module file and its length, and then the notes.
-fn verify<S: Shelf>(
-    alloc: Global,
-    module: &str,
-    notes: &str,
-    shelf: &mut S,
-) -> Result<Report, Stop>
+fn verify<S: Shelf>(alloc: Global, module: &str, notes: &str, shelf: &mut S) -> Result<Report, Stop>
     ensures no_lower { S.faults shelf.old ≤ S.faults shelf.new }
     ensures made { IfOk result (λ r. IfSome (S.files shelf.old) (λ files. seen r ≡ verify_report files «module».now notes.now)) }
     ensures read { IsErrOf result Stop.Read → Faulted (S.faults shelf.old) (S.faults shelf.new)
@@ -117,12 +112,7 @@ fn listed<S: Shelf, K: Sink>(
 }
 
 // Does what the words ask, or refuses them.
-fn act<S: Shelf, K: Sink>(
-    alloc: Global,
-    words: &Vec<String>,
-    shelf: &mut S,
-    sink: &mut K,
-) -> Status
+fn act<S: Shelf, K: Sink>(alloc: Global, words: &Vec<String>, shelf: &mut S, sink: &mut K) -> Status
     ensures refused { is_listed (texts words.now.items) ≡ false → (result ≡ Status.Words)
         ⊎ ((result ≡ Status.WriteFault) × Faulted (K.faults sink.old) (K.faults sink.new)) }
     ensures words { result ≡ Status.Words → is_listed (texts words.now.items) ≡ false }
