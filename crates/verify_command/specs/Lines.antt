@@ -1,0 +1,66 @@
+-- The lines of a report. They are this project's own.
+use Rattle.std.specs.Prelude.{ℕ, ◌+◌, ◌/◌, ◌%◌, List, [], ◌∷◌, ◌++◌, Option, Some, None, nat_lt, if◌then◌else◌, codes}
+use Rattle.std.specs.Fmt.{decimal}
+use Rattle.outline_check.specs.declared.answer.Reason.{Reason}
+use Rattle.outline_check.specs.declared.answer.Reason.TheVariants as reason
+use Rattle.outline_check.specs.declared.answer.LimitWord.{LimitWord}
+use Rattle.outline_check.specs.declared.answer.LimitWord.TheVariants as word
+
+-- A line ends in one newline.
+abbrev pub line : List ℕ → List ℕ
+line text = text ++ 10 ∷ []
+
+-- The lowest hexadecimal digit of a number, in lower case.
+abbrev pub hex_digit : ℕ → ℕ
+hex_digit n = if nat_lt (n % 16) 10 then 48 + n % 16 else 87 + n % 16
+
+-- A place is printed as `0x` and eight hexadecimal digits.
+abbrev pub place_text : ℕ → List ℕ
+place_text at =
+    codes "0x" ++ hex_digit (at / 268435456) ∷ hex_digit (at / 16777216) ∷ hex_digit (at / 1048576) ∷ hex_digit (at / 65536)
+    ∷ hex_digit (at / 4096) ∷ hex_digit (at / 256) ∷ hex_digit (at / 16) ∷ hex_digit at ∷ []
+
+-- The words of reasons; that of a derivation has the number of its bad step.
+abbrev pub reason_text : Reason → List ℕ
+reason_text reason.Notes = codes "notes"
+reason_text reason.Stable = codes "stable"
+reason_text reason.Scope = codes "scope"
+reason_text reason.Exposed = codes "exposed"
+reason_text reason.Use = codes "use"
+reason_text reason.Fact = codes "fact"
+reason_text reason.Chunk = codes "chunk"
+reason_text (reason.Derivation k) = codes "derivation " ++ decimal k
+reason_text reason.Target = codes "target"
+reason_text reason.Initial = codes "initial"
+
+-- The words of limits.
+abbrev pub limit_text : LimitWord → List ℕ
+limit_text word.Module = codes "module"
+limit_text word.Notes = codes "notes"
+limit_text word.Script = codes "script"
+limit_text word.Types = codes "types"
+limit_text word.Imports = codes "imports"
+limit_text word.Functions = codes "functions"
+limit_text word.Globals = codes "globals"
+limit_text word.Params = codes "params"
+limit_text word.Locals = codes "locals"
+limit_text word.Nesting = codes "nesting"
+limit_text word.Nodes = codes "nodes"
+limit_text word.State = codes "state"
+limit_text word.Facts = codes "facts"
+limit_text word.Chunks = codes "chunks"
+limit_text word.Variables = codes "variables"
+limit_text word.Derivation = codes "derivation"
+
+-- The function, where one is meant.
+abbrev pub function_text : Option ℕ → List ℕ
+function_text None = []
+function_text (Some f) = codes " in function " ++ decimal f
+
+-- `failed: REASON at PLACE in function F`
+abbrev pub failed_line : ℕ → Option ℕ → Reason → List ℕ
+failed_line at function reason = line (codes "failed: " ++ (reason_text reason ++ (codes " at " ++ (place_text at ++ function_text function))))
+
+-- `limit: WORD at PLACE`
+abbrev pub limit_line : LimitWord → ℕ → List ℕ
+limit_line word at = line (codes "limit: " ++ (limit_text word ++ (codes " at " ++ place_text at)))

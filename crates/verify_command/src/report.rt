@@ -1,0 +1,39 @@
+ghost use Rattle.std.specs.Prelude.{◌≡◌, IfOk};
+ghost use Rattle.verify_command.specs.Reports.{seen};
+
+use crate::status::Status;
+use std::alloc::{AllocError, Global};
+
+/// What a run writes, and what it comes to.
+#[derive(Drop)]
+pub struct Report {
+    pub text: Vec<u8>,
+    pub status: Status,
+}
+
+/// Why a run has no report.
+#[derive(Clone, Copy, Debug, PartialEq, Eq)]
+pub enum Stop {
+    Read,
+    Memory,
+}
+
+impl From<AllocError> for Stop {
+    ghost use Rattle.verify_command.specs.declared.report.Stop.TheVariants.{Memory};
+
+    ghost from_gives = { λ _ stop. stop ≡ Memory };
+
+    fn from(_: AllocError) -> Stop {
+        Stop::Memory
+    }
+}
+
+/// A report of one line that never differs.
+pub fn fixed(alloc: Global, text: &[u8], status: Status) -> Result<Report, AllocError>
+    ensures { IfOk result (λ r. seen r ≡ record { text = text.now; status = status }) }
+{
+    Ok(Report {
+        text: Vec::from_slice(alloc, text)?,
+        status,
+    })
+}
