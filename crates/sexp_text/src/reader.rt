@@ -11,7 +11,7 @@ use std::alloc::Global;
 use wasm_values::{Bytes, List};
 
 /// The most lists that are open at once.
-pub const MAX_NESTING: usize = 500;
+const MAX_NESTING: usize = 500;
 
 /// A list whose `)` has not come.
 #[derive(Drop)]
