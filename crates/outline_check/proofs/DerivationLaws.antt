@@ -1,14 +1,12 @@
 -- Derivations are exact and sound.
-use Rattle.std.proofs.Common.{◌≡◌, ℕ, zero, suc, ◌+◌, ◌-◌, ◌<◌, ◌≤◌, Bool, true, false, cond, ◌&&◌, nat_eq, ◌⊎◌, inl, inr, List, [], ◌∷◌, ◌++◌, length, map, take, Option, Some, None, refl, ap, sym, ◌∙◌, append_assoc, if◌then◌else◌, add-zero, zero-add, add-suc, add-one, arith, rules, length-append}
+use Rattle.std.proofs.Common.{◌≡◌, ℕ, zero, suc, ◌+◌, ◌-◌, ◌<◌, Bool, true, false, ◌&&◌, ◌⊎◌, inl, inr, List, [], ◌∷◌, ◌++◌, length, take, Option, Some, None, refl, ap, sym, ◌∙◌, append_assoc, if◌then◌else◌, add-zero, arith, length-append}
 use Rattle.std.specs.Prelude.{ℤ, int_le, slice_get, MatchOption}
 use Rattle.std.specs.List.{list_all}
 use Rattle.std.specs.Option.{option_map_or}
 use Rattle.std.specs.Ordering.{int_eq}
-use Rattle.std.proofs.lemmas.Grind.{common_steps}
 use Rattle.std.proofs.lemmas.List.{append-nil}
 use Rattle.std.proofs.lemmas.Bool.Decides.{Decides-int_eq}
-use Rattle.std.proofs.lemmas.Bool.{and_parts, and_from}
-use Rattle.outline_check.specs.declared.notes.Formula.{Formula}
+use Rattle.std.proofs.lemmas.Bool.{and_parts}
 use Rattle.outline_check.specs.declared.notes.Rule.{Rule}
 use Rattle.outline_check.specs.declared.notes.Rule.TheVariants as rule
 use Rattle.outline_check.specs.declared.notes.Ref.{Ref}
@@ -19,15 +17,15 @@ use Rattle.outline_check.specs.declared.state.Term.TheVariants.{Number, Variable
 use Rattle.outline_check.specs.declared.state.Fact.{Fact}
 use Rattle.outline_check.specs.declared.state.Fact.TheVariants.{Equal, AtMost}
 use Rattle.outline_check.specs.States.{fact_of}
-use Rattle.outline_check.specs.Derivations.{same_term, same_fact, is_at, is_small, evaluates, value_of, is_true, DerivationsAreSound, is_instance, is_instance_at, ends_in, bad_from, first_bad, conclusions, Derives, IsFirstBad, DerivationsAreExact}
+use Rattle.outline_check.specs.Derivations.{same_term, same_fact, is_at, is_small, evaluates, value_of, is_true, DerivationsAreSound, is_instance, ends_in, bad_from, first_bad, conclusions, Derives, IsFirstBad, DerivationsAreExact}
 
 module _ (globals : List Term) (hyps : List Fact) (goal : Fact) where
   -- step k after earlier conclusions
   abbrev after_at : List Fact → List Step → ℕ → Bool
   after_at earlier steps k =
       option_map_or
-        (λ step. is_instance hyps (earlier ++ take k (conclusions globals steps)) step.rule step.refs (fact_of globals step.formula))
-        (slice_get steps k) false
+      (λ step. is_instance hyps (earlier ++ take k (conclusions globals steps)) step.rule step.refs (fact_of globals step.formula))
+      (slice_get steps k) false
 
   record AllStand (earlier : List Fact) (steps : List Step) : Type 0 where
     instances : (k : ℕ) → k < length steps → after_at earlier steps k ≡ true
@@ -65,11 +63,12 @@ module _ (globals : List Term) (hyps : List Fact) (goal : Fact) where
       AllStand (earlier ++ fact_of globals step.formula ∷ []) steps → AllStand earlier (step ∷ steps)
   all_on earlier step steps e all = record {
     instances = each;
-    last = sym (shift_last earlier step steps) ∙ all.last }
+    last = sym (shift_last earlier step steps) ∙ all.last;
+  }
     where
-    each : (k : ℕ) → k < length (step ∷ steps) → after_at earlier (step ∷ steps) k ≡ true
-    each zero h = first_stands earlier step steps true e
-    each (suc k) h = sym (shift earlier step steps k) ∙ all.instances k (omega arith)
+      each : (k : ℕ) → k < length (step ∷ steps) → after_at earlier (step ∷ steps) k ≡ true
+      each zero h = first_stands earlier step steps true e
+      each (suc k) h = sym (shift earlier step steps k) ∙ all.instances k (omega arith)
 
   bad_on : (earlier : List Fact) (step : Step) (steps : List Step) (n : ℕ) →
       is_instance hyps earlier step.rule step.refs (fact_of globals step.formula) ≡ true →
@@ -79,13 +78,14 @@ module _ (globals : List Term) (hyps : List Fact) (goal : Fact) where
     place = omega (arith, bad.place, length-append earlier (fact_of globals step.formula ∷ []));
     before = each;
     here = elim bad.here [
-      inl h ↦ inl (omega (arith, h.0), sym (shift earlier step steps bad.k) ∙ h.1)
-    | inr h ↦ inr (ap suc h.0, sym (shift_last earlier step steps) ∙ h.1)
-    ] }
+      | inl h ↦ inl (omega (arith, h.0), sym (shift earlier step steps bad.k) ∙ h.1)
+      | inr h ↦ inr (ap suc h.0, sym (shift_last earlier step steps) ∙ h.1)
+    ];
+  }
     where
-    each : (j : ℕ) → j < suc bad.k → after_at earlier (step ∷ steps) j ≡ true
-    each zero h = first_stands earlier step steps true e
-    each (suc j) h = sym (shift earlier step steps j) ∙ bad.before j (omega arith)
+      each : (j : ℕ) → j < suc bad.k → after_at earlier (step ∷ steps) j ≡ true
+      each zero h = first_stands earlier step steps true e
+      each (suc j) h = sym (shift earlier step steps j) ∙ bad.before j (omega arith)
 
   match_on : (o : Option ℕ) (earlier : List Fact) (step : Step) (steps : List Step) →
       is_instance hyps earlier step.rule step.refs (fact_of globals step.formula) ≡ true →
@@ -103,7 +103,8 @@ module _ (globals : List Term) (hyps : List Fact) (goal : Fact) where
     k = 0;
     place = rw add-zero refl;
     before = λ j h. absurd (omega arith);
-    here = inl (omega arith, first_stands earlier step steps false e) }
+    here = inl (omega arith, first_stands earlier step steps false e);
+  }
 
   stands : (earlier : List Fact) (steps : List Step) → MatchOption (bad_from globals hyps goal earlier steps) (AllStand earlier steps) (BadAt earlier steps)
   stands earlier [] = ended earlier (ends_in earlier goal) refl
@@ -141,7 +142,7 @@ module _ (numbers : ℕ → ℤ) where
   same-truth (Equal a b) (AtMost c d) e = cc
   same-truth (AtMost a b) (Equal c d) e = cc
 
-  at-true : (facts : List Fact) (k : ℕ) (fact : Fact) → list_all (is_true numbers) facts ≡ true → is_at facts k fact ≡ true →
+  pub at-true : (facts : List Fact) (k : ℕ) (fact : Fact) → list_all (is_true numbers) facts ≡ true → is_at facts k fact ≡ true →
       is_true numbers fact ≡ true
   unfolding is_at
   at-true [] k fact h e = cc
@@ -172,7 +173,7 @@ module _ (numbers : ℕ → ℤ) where
   instance-true hyps earlier rule.Hyp (ref.Earlier k ∷ r ∷ refs) fact h k_true e = cc
   instance-true hyps earlier rule.Eval (r ∷ refs) fact h k_true e = cc
 
-  all-append : (xs : List Fact) (x : Fact) → list_all (is_true numbers) xs ≡ true → is_true numbers x ≡ true →
+  pub all-append : (xs : List Fact) (x : Fact) → list_all (is_true numbers) xs ≡ true → is_true numbers x ≡ true →
       list_all (is_true numbers) (xs ++ x ∷ []) ≡ true
   all-append [] x h e = rw e refl
   all-append (y ∷ xs) x h e =
@@ -186,13 +187,14 @@ module _ (numbers : ℕ → ℤ) where
         at-true earlier (length earlier - 1) goal h (rw append-nil at all.last)
     sound-from earlier (step ∷ steps) h all =
         let here : is_instance hyps earlier step.rule step.refs (fact_of globals step.formula) ≡ true =
-          rw append-nil at (all.instances 0 (omega arith)) in
+        rw append-nil at (all.instances 0 (omega arith)) in
         sound-from (earlier ++ fact_of globals step.formula ∷ []) steps
         (all-append earlier (fact_of globals step.formula) h
         (instance-true hyps earlier step.rule step.refs (fact_of globals step.formula) hyps_true h here))
         (record {
           instances = λ k below. shift globals hyps goal earlier step steps k ∙ all.instances (suc k) (omega arith);
-          last = shift_last globals hyps goal earlier step steps ∙ all.last })
+          last = shift_last globals hyps goal earlier step steps ∙ all.last;
+        })
 
 pub sound : DerivationsAreSound
 sound globals hyps goal steps numbers derives h =

@@ -2,3 +2,4 @@ pub mod StateLemmas
 pub mod WalkLemmas
 pub mod ModuleLemmas
 pub mod DerivationLaws
+pub mod RunLemmas

@@ -11,8 +11,8 @@ use Rattle.wasm_syntax.proofs.FlatLemmas.{flat_of-simple}
 use Rattle.outline_check.specs.declared.stop.Stop.{Stop}
 use Rattle.outline_check.specs.declared.stop.Stop.TheVariants as stop
 use Rattle.outline_check.specs.declared.stop.Refusal.{Refusal}
-use Rattle.outline_check.specs.declared.stop.Refusal.TheVariants as refusal
-use Rattle.outline_check.specs.Refusals.{and_then, placed, IsSaid, IsSaidThere}
+use Rattle.outline_check.specs.declared.stop.Why.{Why}
+use Rattle.outline_check.specs.Refusals.{and_then, placed, stops_at, IsSaid}
 use Rattle.std.specs.Prelude.{slice_index}
 use Rattle.outline_check.specs.declared.notes.Formula.{Formula}
 use Rattle.outline_check.specs.declared.notes.Note.{Note}
@@ -21,18 +21,17 @@ use Rattle.outline_check.specs.Outlines.{rise_within, note_at, ended, run_from}
 use Rattle.outline_check.specs.Cursors.{numbered, IsCursor}
 
 -- a place on both sides
-pub placed-said : {A : Type 0} (at : ℕ) (function : Option ℕ) (r said : Result A Stop) → IsSaid r said → IsSaidThere (placed at function r) (placed at function said)
+pub placed-said : {A : Type 0} (at : ℕ) (function : Option ℕ) (r : Result A (Stop Why)) (said : Result A Why) → IsSaid r said →
+    IsSaid (stops_at at function r) (placed at function said)
 placed-said at function (Ok a) said h = ap (placed at function) h
-placed-said at function (Err (stop.Reason reason)) said h = ap (placed at function) h
-placed-said at function (Err (stop.Limit word)) said h = ap (placed at function) h
+placed-said at function (Err (stop.Refused reason)) said h = ap (placed at function) h
 placed-said at function (Err stop.OutOfMemory) said h = tt
 
 -- a refusal is that of all that follows
-pub refused-first : {A B : Type 0} (why : Refusal) (first : Result A Refusal) (next : A → Result B Refusal) →
-    IsSaidThere {A = A} (Err why) first → IsSaidThere {A = B} (Err why) (and_then first next)
-refused-first (refusal.Failed at function reason) first next h = ap (λ r. and_then r next) h
-refused-first (refusal.Limit at word) first next h = ap (λ r. and_then r next) h
-refused-first refusal.OutOfMemory first next h = tt
+pub refused-first : {A B : Type 0} (why : Stop Refusal) (first : Result A Refusal) (next : A → Result B Refusal) →
+    IsSaid {A = A} {W = Refusal} (Err why) first → IsSaid {A = B} {W = Refusal} (Err why) (and_then first next)
+refused-first (stop.Refused refusal) first next h = ap (λ r. and_then r next) h
+refused-first stop.OutOfMemory first next h = tt
 
 -- simple instructions are one item each
 flat-simple : (is : List Instr) → list_all is_simple is ≡ true → flat is ≡ map One is
@@ -93,10 +92,10 @@ no_other_item is i item h within e other =
 
 -- the end of a body
 pub run-end : (invariant : List Formula) (function : ℕ) (notes : List Note) (places : List ℕ) (body : List Instr) (s : State) (i last : ℕ)
-    (given : Option Note) (r : Result (Unit {0}) Stop) (placed_r : Result (Unit {0}) Refusal) (whole : Result (Unit {0}) Refusal) →
+    (given : Option Note) (r : Result (Unit {0}) (Stop Why)) (placed_r : Result (Unit {0}) (Stop Refusal)) (whole : Result (Unit {0}) Refusal) →
     i ≡ last → length body ≤ i → given ≡ note_at notes last → IsSaid r (ended invariant given s) →
-    placed_r ≡ placed (slice_index places last) (Some function) r →
-    run_from invariant function notes places i (drop i body) s ≡ whole → IsSaidThere placed_r whole
+    placed_r ≡ stops_at (slice_index places last) (Some function) r →
+    run_from invariant function notes places i (drop i body) s ≡ whole → IsSaid placed_r whole
 run-end invariant function notes places body s i last given r placed_r whole e past en said ep so_far =
     let here : IsSaid r (ended invariant (note_at notes i) s) = rw (e, ← en) said in
     let there = placed-said (slice_index places i) (Some function) r (ended invariant (note_at notes i) s) here in

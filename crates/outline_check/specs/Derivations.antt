@@ -14,12 +14,13 @@ use Rattle.outline_check.specs.declared.state.Fact.{Fact}
 use Rattle.outline_check.specs.declared.state.Fact.TheVariants.{Equal, AtMost}
 use Rattle.outline_check.specs.States.{fact_of}
 
--- Whether two terms, or two facts, are the same tree.
+-- Whether two terms are the same tree.
 abbrev pub same_term : Term → Term → Bool
 same_term (Number a) (Number b) = int_eq a b
 same_term (Variable v) (Variable w) = nat_eq v w
 same_term _ _ = false
 
+-- Whether two facts are the same tree.
 unfoldable pub same_fact : Fact → Fact → Bool
 same_fact (Equal a b) (Equal c d) = same_term a c && same_term b d
 same_fact (AtMost a b) (AtMost c d) = same_term a c && same_term b d
@@ -60,6 +61,7 @@ bad_from globals hyps goal earlier (step ∷ steps) =
     then bad_from globals hyps goal (earlier ++ fact_of globals step.formula ∷ []) steps
     else Some (length earlier)
 
+-- The same from the first step on: the number K of a derivation that is refused.
 abbrev pub first_bad : List Term → List Fact → Fact → List Step → Option ℕ
 first_bad globals hyps goal steps = bad_from globals hyps goal [] steps
 
@@ -71,8 +73,8 @@ conclusions globals steps = map (λ step. fact_of globals step.formula) steps
 abbrev pub is_instance_at : List Term → List Fact → List Step → ℕ → Bool
 is_instance_at globals hyps steps k =
     option_map_or
-      (λ step. is_instance hyps (take k (conclusions globals steps)) step.rule step.refs (fact_of globals step.formula))
-      (slice_get steps k) false
+    (λ step. is_instance hyps (take k (conclusions globals steps)) step.rule step.refs (fact_of globals step.formula))
+    (slice_get steps k) false
 
 -- The steps derive the goal from the hypotheses: each step is an instance over the hypotheses and the earlier
 -- conclusions, and the last conclusion is the goal.
@@ -85,8 +87,8 @@ pub record Derives (globals : List Term) (hyps : List Fact) (goal : Fact) (steps
 pub record IsFirstBad (globals : List Term) (hyps : List Fact) (goal : Fact) (steps : List Step) (k : ℕ) : Type 0 where
   pub before : (j : ℕ) → j < k → is_instance_at globals hyps steps j ≡ true
   pub here :
-    ((k < length steps) × (is_instance_at globals hyps steps k ≡ false))
-    ⊎ ((k ≡ length steps) × (ends_in (conclusions globals steps) goal ≡ false))
+      ((k < length steps) × (is_instance_at globals hyps steps k ≡ false))
+      ⊎ ((k ≡ length steps) × (ends_in (conclusions globals steps) goal ≡ false))
 
 -- The first bad step is none exactly where the steps derive the goal, and else it is the first bad one.
 abbrev pub DerivationsAreExact : Type 0

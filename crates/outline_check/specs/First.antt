@@ -33,19 +33,19 @@ pub record IsEmptyType (ty : FuncType) : Type 0 where
   pub params : ty.params ≡ []
   pub results : ty.results ≡ []
 
--- An expression is one `i32.const` of a number of 32 bits (Core 2.4.7).
+-- An expression is one `i32.const` of a number of 32 bits (Core 2.4.6).
 abbrev pub IsI32Const : List Instr → Type 0
 IsI32Const (Const (value.I32 n) ∷ []) = IsU32 n
 IsI32Const _ = ⊥
 
--- A global is a mutable i32 whose initial value is one `i32.const` (Core 2.5.4).
+-- A global is a mutable i32 whose initial value is one `i32.const` (Core 2.5.6).
 pub record IsFirstGlobal (global : Global) : Type 0 where
   pub value : global.ty.value ≡ type.I32
   pub mutable : global.ty.mutable ≡ true
   pub init : IsI32Const global.init
 
 -- With so many globals and so many operands at hand, the instructions are of `nop`, `drop`, `i32.const`, `global.get`
--- and `global.set` alone, every global exists, no operand is missing, and none is left at the end (Core 3.3.5).
+-- and `global.set` alone, every global exists, no operand is missing, and none is left at the end (Core 3.3.6).
 abbrev pub IsFirstBody : ℕ → ℕ → List Instr → Type 0
 IsFirstBody globals zero [] = Unit {0}
 IsFirstBody globals depth (Plain Nop ∷ rest) = IsFirstBody globals depth rest
@@ -61,11 +61,12 @@ pub record IsFirstFunc (types globals : ℕ) (func : Func) : Type 0 where
   pub locals : func.locals ≡ []
   pub body : IsFirstBody globals 0 func.body
 
--- An export is a function that exists (Core 2.5.10).
+-- What is exported is a function that exists (Core 2.5.10).
 abbrev pub IsFunction : ℕ → ExportKind → Type 0
 IsFunction funcs (kind.Func f) = f < funcs
 IsFunction funcs _ = ⊥
 
+-- An export has a name of bytes and is such a function (Core 2.5.10).
 pub record IsFirstExport (funcs : ℕ) (export : Export) : Type 0 where
   pub name : AreBytes export.name
   pub kind : IsFunction funcs export.kind

@@ -4,3 +4,4 @@ pub mod States
 pub mod Derivations
 pub mod Outlines
 pub mod Cursors
+pub mod Runs

@@ -7,8 +7,6 @@ use Rattle.wasm_syntax.specs.declared.module.Func.{Func}
 use Rattle.wasm_syntax.specs.declared.module.Module.{Module}
 use Rattle.wasm_syntax.specs.declared.module.Marks.{Marks}
 use Rattle.wasm_syntax.specs.FlatForm.{flat_body}
-use Rattle.outline_check.specs.declared.answer.Answer.{Answer}
-use Rattle.outline_check.specs.declared.answer.CheckFault.{CheckFault}
 use Rattle.outline_check.specs.declared.answer.Reason.TheVariants as reason
 use Rattle.outline_check.specs.declared.notes.Formula.{Formula}
 use Rattle.outline_check.specs.declared.notes.Step.{Step}
@@ -21,10 +19,10 @@ use Rattle.outline_check.specs.declared.notes.FuncNotes.{FuncNotes}
 use Rattle.outline_check.specs.declared.notes.Notes.{Notes}
 use Rattle.outline_check.specs.declared.state.State.{State}
 use Rattle.outline_check.specs.declared.state.Fact.{Fact}
-use Rattle.outline_check.specs.declared.stop.Stop.{Stop}
-use Rattle.outline_check.specs.declared.stop.Stop.TheVariants as stop
+use Rattle.outline_check.specs.declared.stop.Why.{Why}
+use Rattle.outline_check.specs.declared.stop.Why.TheVariants as why
 use Rattle.outline_check.specs.declared.stop.Refusal.{Refusal}
-use Rattle.outline_check.specs.Refusals.{and_then, test_for, placed, answered}
+use Rattle.outline_check.specs.Refusals.{Outline, and_then, test_for, placed, answered}
 use Rattle.outline_check.specs.States.{fact_of, made, with_fact, entered, initial_state, after}
 use Rattle.outline_check.specs.Derivations.{is_at, first_bad}
 
@@ -33,12 +31,12 @@ abbrev pub in_scope : ℕ → Formula → Bool
 in_scope globals formula = nat_lt formula.global globals
 
 -- The move `have`, once its formulas are in scope: the goal is one more fact where the steps derive it.
-abbrev pub derived : Fact → State → Option ℕ → Result State Stop
+abbrev pub derived : Fact → State → Option ℕ → Result State Why
 derived goal s None = made (with_fact goal s)
-derived goal s (Some k) = Err (stop.Reason (reason.Derivation k))
+derived goal s (Some k) = Err (why.Reason (reason.Derivation k))
 
 -- The move `have`: its formulas are in scope, the steps derive the first of them from the facts, and it is one more fact.
-abbrev pub had : Formula → List Step → State → Result State Stop
+abbrev pub had : Formula → List Step → State → Result State Why
 had formula steps s =
     and_then
     (test_for reason.Scope
@@ -46,7 +44,7 @@ had formula steps s =
     (λ _. derived (fact_of s.globals formula) s (first_bad s.globals s.facts (fact_of s.globals formula) steps))
 
 -- Moves are made in their order.
-abbrev pub moved : List Move → State → Result State Stop
+abbrev pub moved : List Move → State → Result State Why
 moved [] s = Ok s
 moved (Have formula steps ∷ moves) s = and_then (had formula steps s) (moved moves)
 
@@ -57,16 +55,17 @@ are_facts s [] [] = true
 are_facts s _ _ = false
 
 -- The state entails the formulas by the facts of these numbers.
-abbrev pub entailed : List Formula → List ℕ → State → Result (Unit {0}) Stop
+abbrev pub entailed : List Formula → List ℕ → State → Result (Unit {0}) Why
 entailed formulas numbers s =
     and_then (test_for reason.Use (nat_eq (length numbers) (length formulas)))
     (λ _. test_for reason.Fact (are_facts s numbers formulas))
 
--- What a note gives, if there is one.
+-- The moves of a note, if there is one.
 abbrev pub moves_of : Option Note → List Move
 moves_of None = []
 moves_of (Some note) = note.moves
 
+-- The use of a note; without a note there is none.
 abbrev pub use_of : Option Note → Use
 use_of None = Nothing
 use_of (Some note) = note.used
@@ -82,13 +81,13 @@ is_unused Nothing = true
 is_unused (With w) = false
 
 -- One instruction: its moves, the form of its use, its effect.
-abbrev pub stepped : Option Note → Instr → State → Result State Stop
+abbrev pub stepped : Option Note → Instr → State → Result State Why
 stepped note instr s =
     and_then (moved (moves_of note) s)
     (λ t. and_then (test_for reason.Use (is_unused (use_of note))) (λ _. after instr t))
 
 -- The end of a function: its moves, and the invariant.
-abbrev pub ended : List Formula → Option Note → State → Result (Unit {0}) Stop
+abbrev pub ended : List Formula → Option Note → State → Result (Unit {0}) Why
 ended invariant note s = and_then (moved (moves_of note) s) (entailed invariant (facts_of (use_of note)))
 
 -- The note of an instruction, by the instruction's number in its body.
@@ -139,7 +138,7 @@ notes_fit funcs notes =
     rise_within 0 (length funcs) (map (λ func. func.func) notes) && list_all (body_fits funcs) notes
 
 -- The initial state meets the invariant.
-abbrev pub initial_outline : Module → Notes → Result (Unit {0}) Stop
+abbrev pub initial_outline : Module → Notes → Result (Unit {0}) Why
 initial_outline m notes =
     and_then (initial_state m.globals)
     (λ s. and_then (moved notes.initial.moves s) (entailed notes.invariant.formulas notes.initial.with.facts))
@@ -153,5 +152,5 @@ module_outline m marks notes =
     (λ _. placed marks.len None (initial_outline m notes))))
 
 -- The outline of a module with these marks by these notes: verified, or the first refusal with its place.
-unfoldable pub outline : Module → Marks → Notes → Result Answer CheckFault
+unfoldable pub outline : Module → Marks → Notes → Outline
 outline m marks notes = answered (module_outline m marks notes)

@@ -4,11 +4,20 @@ use Rattle.outline_check.specs.declared.answer.Answer.{Answer}
 use Rattle.outline_check.specs.declared.answer.Answer.TheVariants as answer
 use Rattle.outline_check.specs.declared.answer.CheckFault.{CheckFault}
 use Rattle.outline_check.specs.declared.answer.CheckFault.TheVariants as fault
+use Rattle.outline_check.specs.declared.answer.LimitWord.{LimitWord}
 use Rattle.outline_check.specs.declared.answer.Reason.{Reason}
+use Rattle.outline_check.specs.declared.stop.Why.{Why}
+use Rattle.outline_check.specs.declared.stop.Why.TheVariants as why
+use Rattle.outline_check.specs.declared.stop.Refusal.{Refusal}
 use Rattle.outline_check.specs.declared.stop.Stop.{Stop}
 use Rattle.outline_check.specs.declared.stop.Stop.TheVariants as stop
-use Rattle.outline_check.specs.declared.stop.Refusal.{Refusal}
-use Rattle.outline_check.specs.declared.stop.Refusal.TheVariants as refusal
+
+-- What the outline of a module is: verified, failed at a place (in a function, where one is meant) for a reason, or past
+-- a limit at a place.
+pub data Outline : Type 0 where
+  Verified : Outline
+  Failed : ℕ → Option ℕ → Reason → Outline
+  Limit : ℕ → LimitWord → Outline
 
 -- What comes after a success; a refusal stands.
 abbrev pub and_then : {A B E : Type 0} → Result A E → (A → Result B E) → Result B E
@@ -16,41 +25,50 @@ and_then (Ok a) next = next a
 and_then (Err e) next = Err e
 
 -- A test that is met goes on, one that isn't is refused for the reason.
-abbrev pub test_for : Reason → Bool → Result (Unit {0}) Stop
+abbrev pub test_for : Reason → Bool → Result (Unit {0}) Why
 test_for reason true = Ok tt
-test_for reason false = Err (stop.Reason reason)
+test_for reason false = Err (why.Reason reason)
 
--- What is refused has the place, and the function where one is meant.
-abbrev pub stopped_at : ℕ → Option ℕ → Stop → Refusal
-stopped_at at function (stop.Reason reason) = refusal.Failed at function reason
-stopped_at at function (stop.Limit word) = refusal.Limit at word
-stopped_at at function stop.OutOfMemory = refusal.OutOfMemory
-
-abbrev pub placed : {A : Type 0} → ℕ → Option ℕ → Result A Stop → Result A Refusal
+-- A result with its place, where it is a refusal.
+abbrev pub placed : {A : Type 0} → ℕ → Option ℕ → Result A Why → Result A Refusal
 placed at function (Ok a) = Ok a
-placed at function (Err why) = Err (stopped_at at function why)
+placed at function (Err reason) = Err (record { at = at; function = function; why = reason })
 
--- What the check answers for the tests of a whole module.
-abbrev pub answered : Result (Unit {0}) Refusal → Result Answer CheckFault
-answered (Ok _) = Ok answer.Verified
-answered (Err (refusal.Failed at function reason)) = Ok (answer.Failed at function reason)
-answered (Err (refusal.Limit at word)) = Err (fault.Limit at word)
-answered (Err refusal.OutOfMemory) = Err fault.OutOfMemory
+-- What a refusal at a place says of the outline.
+abbrev pub failed_by : ℕ → Option ℕ → Why → Outline
+failed_by at function (why.Reason reason) = Failed at function reason
+failed_by at function (why.Limit word) = Limit at word
 
--- A result is the one that is said, or want of memory.
-abbrev pub IsSaid : {A : Type 0} → Result A Stop → Result A Stop → Type 0
+-- The same of a refusal with its place.
+abbrev pub failed : Refusal → Outline
+failed refusal = failed_by refusal.at refusal.function refusal.why
+
+-- The outline by the tests of a whole module.
+abbrev pub answered : Result (Unit {0}) Refusal → Outline
+answered (Ok _) = Verified
+answered (Err refusal) = failed refusal
+
+-- A result is as the definition says, or want of memory.
+abbrev pub IsSaid : {A W : Type 0} → Result A (Stop W) → Result A W → Type 0
 IsSaid (Ok a) said = said ≡ Ok a
-IsSaid (Err (stop.Reason reason)) said = said ≡ Err (stop.Reason reason)
-IsSaid (Err (stop.Limit word)) said = said ≡ Err (stop.Limit word)
+IsSaid (Err (stop.Refused reason)) said = said ≡ Err reason
 IsSaid (Err stop.OutOfMemory) said = Unit {0}
 
-abbrev pub IsSaidThere : {A : Type 0} → Result A Refusal → Result A Refusal → Type 0
-IsSaidThere (Ok a) said = said ≡ Ok a
-IsSaidThere (Err (refusal.Failed at function reason)) said = said ≡ Err (refusal.Failed at function reason)
-IsSaidThere (Err (refusal.Limit at word)) said = said ≡ Err (refusal.Limit at word)
-IsSaidThere (Err refusal.OutOfMemory) said = Unit {0}
+-- A result isn't want of memory.
+abbrev pub HasMemory : {A W : Type 0} → Result A (Stop W) → Type 0
+HasMemory (Ok a) = Unit {0}
+HasMemory (Err (stop.Refused reason)) = Unit {0}
+HasMemory (Err stop.OutOfMemory) = ⊥
 
-abbrev pub IsAnswer : Result Answer CheckFault → Result Answer CheckFault → Type 0
-IsAnswer (Ok a) said = said ≡ Ok a
-IsAnswer (Err (fault.Limit at word)) said = said ≡ Err (fault.Limit at word)
+-- An answer is the outline that is said, or want of memory.
+abbrev pub IsAnswer : Result Answer CheckFault → Outline → Type 0
+IsAnswer (Ok answer.Verified) said = said ≡ Verified
+IsAnswer (Ok (answer.Failed at function reason)) said = said ≡ Failed at function reason
+IsAnswer (Err (fault.Limit at word)) said = said ≡ Limit at word
 IsAnswer (Err fault.OutOfMemory) said = Unit {0}
+
+-- A result with its place; want of memory has none.
+abbrev pub stops_at : {A : Type 0} → ℕ → Option ℕ → Result A (Stop Why) → Result A (Stop Refusal)
+stops_at at function (Ok a) = Ok a
+stops_at at function (Err (stop.Refused reason)) = Err (stop.Refused (record { at = at; function = function; why = reason }))
+stops_at at function (Err stop.OutOfMemory) = Err stop.OutOfMemory

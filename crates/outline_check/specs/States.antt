@@ -11,8 +11,8 @@ use Rattle.outline_check.specs.declared.state.Term.TheVariants.{Number, Variable
 use Rattle.outline_check.specs.declared.state.Fact.{Fact}
 use Rattle.outline_check.specs.declared.state.Fact.TheVariants.{Equal, AtMost}
 use Rattle.outline_check.specs.declared.state.State.{State}
-use Rattle.outline_check.specs.declared.stop.Stop.{Stop}
-use Rattle.outline_check.specs.declared.stop.Stop.TheVariants as stop
+use Rattle.outline_check.specs.declared.stop.Why.{Why}
+use Rattle.outline_check.specs.declared.stop.Why.TheVariants as why
 use Rattle.outline_check.specs.Refusals.{and_then}
 
 -- The term of a global. There is one wherever it is asked for.
@@ -28,11 +28,11 @@ abbrev pub nodes : State → ℕ
 nodes s = 3 * length s.facts + (length s.globals + length s.operands)
 
 -- A state that is made is within the limits, or the first limit that it passes is the refusal.
-unfoldable pub made : State → Result State Stop
+unfoldable pub made : State → Result State Why
 made s =
-    if nat_lt 1000000 s.variables then Err (stop.Limit word.Variables)
-    else if nat_lt 4096 (length s.facts) then Err (stop.Limit word.Facts)
-    else if nat_lt 1000000 (nodes s) then Err (stop.Limit word.State)
+    if nat_lt 1000000 s.variables then Err (why.Limit word.Variables)
+    else if nat_lt 4096 (length s.facts) then Err (why.Limit word.Facts)
+    else if nat_lt 1000000 (nodes s) then Err (why.Limit word.State)
     else Ok s
 
 -- One more fact, which has the next number.
@@ -53,17 +53,17 @@ abbrev pub nothing : State
 nothing = record { variables = 0; facts = []; globals = []; operands = [] }
 
 -- So many globals, each a typed variable, in index order.
-abbrev pub with_globals : ℕ → Result State Stop
+abbrev pub with_globals : ℕ → Result State Why
 with_globals zero = Ok nothing
 with_globals (suc n) = and_then (with_globals n) (λ s. made (with_global s))
 
 -- Formulas are added as facts, in their order.
-abbrev pub assumed : List Formula → State → Result State Stop
+abbrev pub assumed : List Formula → State → Result State Why
 assumed [] s = Ok s
 assumed (formula ∷ formulas) s = and_then (made (with_fact (fact_of s.globals formula) s)) (assumed formulas)
 
 -- The state at a function's entry: a typed variable for each global, and then the invariant.
-abbrev pub entered : ℕ → List Formula → Result State Stop
+abbrev pub entered : ℕ → List Formula → Result State Why
 entered globals invariant = and_then (with_globals globals) (assumed invariant)
 
 -- The number that a global begins with.
@@ -72,7 +72,7 @@ initial_term (Const (value.I32 n) ∷ []) = Number (pos n)
 initial_term _ = Number (pos 0)
 
 -- The initial state: each global is its number.
-abbrev pub initial_state : List Global → Result State Stop
+abbrev pub initial_state : List Global → Result State Why
 initial_state globals =
     made (record { variables = 0; facts = []; globals = map (λ global. initial_term global.init) globals; operands = [] })
 
@@ -81,10 +81,10 @@ abbrev pub with_set : ℕ → List Term → State → State
 with_set k [] s = s
 with_set k (top ∷ rest) s = record s { globals = slice_set s.globals k top; operands = rest }
 
--- What an instruction does (Core 4.4): `nop` nothing, `drop` takes the top operand away, a constant is its unsigned
+-- What an instruction does (Core 4.4.1 to 4.4.3): `nop` nothing, `drop` takes the top operand away, a constant is its unsigned
 -- number, `global.get` puts the global's term on top and `global.set` takes the top operand for it. Other instructions
 -- stand in no module of First.
-abbrev pub after : Instr → State → Result State Stop
+abbrev pub after : Instr → State → Result State Why
 after (Plain Drop) s = Ok (record s { operands = drop 1 s.operands })
 after (Const (value.I32 n)) s = made (record s { operands = Number (pos n) ∷ s.operands })
 after (GlobalGet k) s = made (record s { operands = term_at s.globals k ∷ s.operands })

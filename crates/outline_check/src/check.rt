@@ -3,7 +3,7 @@ ghost use Rattle.std.specs.List.{list_all, AllZip};
 ghost use Rattle.std.specs.Option.{option_copied};
 ghost use Rattle.wasm_syntax.specs.FlatForm.{is_simple};
 ghost use Rattle.outline_check.specs.First.{IsFirst, HasPlaces, HasPlaceEach};
-ghost use Rattle.outline_check.specs.Refusals.{test_for, IsSaid, IsSaidThere, IsAnswer};
+ghost use Rattle.outline_check.specs.Refusals.{HasMemory, test_for, IsSaid, IsAnswer};
 ghost use Rattle.outline_check.specs.Outlines.{notes_of, body_fits, notes_fit, rise_within, instructions, functions_from, initial_outline, module_outline, outline};
 ghost use Rattle.outline_check.specs.Cursors.{IsCursor, AreSimple};
 
@@ -12,7 +12,7 @@ use crate::effect::initial_state;
 use crate::moves::{are_in_scope, entailed, moved};
 use crate::notes::{Formula, FuncNotes, Note, Notes};
 use crate::place::{answered, placed};
-use crate::stop::{Refusal, Stop};
+use crate::stop::{Refusal, Stop, Why};
 use crate::walk::check_function;
 use std::alloc::Global;
 use wasm_syntax::{Func, Marks, Module};
@@ -76,13 +76,14 @@ fn notes_fit(funcs: &[Func], notes: &[FuncNotes]) -> bool
     functions_rise(notes, funcs.len()) && bodies_fit(funcs, notes)
 }
 
-fn test_for(reason: Reason, met: bool) -> Result<(), Stop>
-    ensures { result ≡ test_for reason met }
+fn test_for(reason: Reason, met: bool) -> Result<(), Stop<Why>>
+    ensures said { IsSaid result (test_for reason met) }
+    ensures memory { HasMemory result }
 {
     if met {
         Ok(())
     } else {
-        Err(Stop::Reason(reason))
+        Err(Stop::Refused(Why::Reason(reason)))
     }
 }
 
@@ -108,12 +109,12 @@ fn check_functions(
     globals: usize,
     notes: &Notes,
     code: &[List<usize>],
-) -> Result<(), Refusal>
+) -> Result<(), Stop<Refusal>>
     requires first { AreSimple funcs.now }
     requires few { length funcs.now < 2 ^ 32 }
     requires marked { AllZip HasPlaceEach funcs.now code.now }
     requires fit { notes_fit funcs.now notes.now.funcs ≡ true }
-    ensures { IsSaidThere result (functions_from globals notes.now code.now 0 funcs.now) }
+    ensures { IsSaid result (functions_from globals notes.now code.now 0 funcs.now) }
 {
     let invariant = notes.invariant.formulas.as_slice();
     let mut cursor = 0;
@@ -128,7 +129,7 @@ fn check_functions(
 }
 
 /// The initial state meets the invariant.
-fn check_initial(alloc: Global, m: &Module, notes: &Notes) -> Result<(), Stop>
+fn check_initial(alloc: Global, m: &Module, notes: &Notes) -> Result<(), Stop<Why>>
     ensures { IsSaid result (initial_outline m.now notes.now) }
 {
     let state = initial_state(alloc, m.globals.as_slice())?;
@@ -137,10 +138,10 @@ fn check_initial(alloc: Global, m: &Module, notes: &Notes) -> Result<(), Stop>
     entailed(formulas, notes.initial.with.facts.as_slice(), &state)
 }
 
-fn check_all(alloc: Global, m: &Module, notes: &Notes, marks: &Marks) -> Result<(), Refusal>
+fn check_all(alloc: Global, m: &Module, notes: &Notes, marks: &Marks) -> Result<(), Stop<Refusal>>
     requires first { IsFirst m.now }
     requires marked { HasPlaces m.now marks.now }
-    ensures { IsSaidThere result (module_outline m.now marks.now notes.now) }
+    ensures { IsSaid result (module_outline m.now marks.now notes.now) }
 {
     let funcs = m.funcs.as_slice();
     let globals = m.globals.len();

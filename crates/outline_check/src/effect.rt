@@ -1,12 +1,12 @@
 ghost use Rattle.std.specs.Prelude.{◌≡◌, ◌<◌, ◌∷◌};
-ghost use Rattle.outline_check.specs.Refusals.{IsSaid};
+ghost use Rattle.outline_check.specs.Refusals.{HasMemory, IsSaid};
 ghost use Rattle.outline_check.specs.States.{made, with_fact, with_global, with_globals, assumed, entered, initial_term, initial_state, with_set, after, nothing};
 
 use crate::answer::LimitWord;
 use crate::derivation::{fact_of, term_at};
 use crate::notes::Formula;
 use crate::state::{Fact, Stack, State, Term};
-use crate::stop::Stop;
+use crate::stop::{Stop, Why};
 use std::alloc;
 use wasm_syntax::{Global, Instr, Plain};
 use wasm_values::{List, Val};
@@ -19,28 +19,29 @@ const MAX_NODES: usize = 1_000_000;
 
 /// The state, if it is within the limits.
 #[tactic(auto, unfolding(crate::specs::States::made))]
-fn made(state: State) -> Result<State, Stop>
-    ensures { result ≡ made state }
+fn made(state: State) -> Result<State, Stop<Why>>
+    ensures said { IsSaid result (made state) }
+    ensures memory { HasMemory result }
 {
     let facts = state.facts.len();
     let globals = state.globals.len();
     let operands = state.operands.len();
     if state.variables > MAX_VARIABLES {
-        Err(Stop::Limit(LimitWord::Variables))
+        Err(Stop::Refused(Why::Limit(LimitWord::Variables)))
     } else if facts > MAX_FACTS {
-        Err(Stop::Limit(LimitWord::Facts))
+        Err(Stop::Refused(Why::Limit(LimitWord::Facts)))
     } else if globals > MAX_NODES
         || operands > MAX_NODES
         || 3 * facts + (globals + operands) > MAX_NODES
     {
-        Err(Stop::Limit(LimitWord::State))
+        Err(Stop::Refused(Why::Limit(LimitWord::State)))
     } else {
         Ok(state)
     }
 }
 
 /// One more fact.
-pub fn with_fact(fact: Fact, mut state: State) -> Result<State, Stop>
+pub fn with_fact(fact: Fact, mut state: State) -> Result<State, Stop<Why>>
     ensures { IsSaid result (made (with_fact fact state)) }
 {
     state.facts.push(fact)?;
@@ -48,7 +49,7 @@ pub fn with_fact(fact: Fact, mut state: State) -> Result<State, Stop>
 }
 
 /// One more global, whose term is a fresh variable with the facts of an i32.
-fn with_global(mut state: State) -> Result<State, Stop>
+fn with_global(mut state: State) -> Result<State, Stop<Why>>
     requires { state.variables < 4294967295 }
     ensures { IsSaid result (made (with_global state)) }
 {
@@ -73,7 +74,7 @@ fn nothing(alloc: alloc::Global) -> State
     }
 }
 
-fn with_globals(alloc: alloc::Global, globals: usize) -> Result<State, Stop>
+fn with_globals(alloc: alloc::Global, globals: usize) -> Result<State, Stop<Why>>
     ensures { IsSaid result (with_globals globals) }
 {
     let mut state = nothing(alloc);
@@ -83,7 +84,7 @@ fn with_globals(alloc: alloc::Global, globals: usize) -> Result<State, Stop>
     Ok(state)
 }
 
-fn assumed(formulas: &[Formula], mut state: State) -> Result<State, Stop>
+fn assumed(formulas: &[Formula], mut state: State) -> Result<State, Stop<Why>>
     ensures { IsSaid result (assumed formulas.now state) }
 {
     for formula in formulas {
@@ -94,7 +95,11 @@ fn assumed(formulas: &[Formula], mut state: State) -> Result<State, Stop>
 }
 
 /// The state at a function's entry.
-pub fn entered(alloc: alloc::Global, globals: usize, invariant: &[Formula]) -> Result<State, Stop>
+pub fn entered(
+    alloc: alloc::Global,
+    globals: usize,
+    invariant: &[Formula],
+) -> Result<State, Stop<Why>>
     ensures { IsSaid result (entered globals invariant.now) }
 {
     let state = with_globals(alloc, globals)?;
@@ -111,7 +116,7 @@ fn initial_term(init: &[Instr]) -> Term
 }
 
 /// The initial state: each global is its number.
-pub fn initial_state(alloc: alloc::Global, globals: &[Global]) -> Result<State, Stop>
+pub fn initial_state(alloc: alloc::Global, globals: &[Global]) -> Result<State, Stop<Why>>
     ensures { IsSaid result (initial_state globals.now) }
 {
     let mut terms = List::new(alloc);
@@ -126,7 +131,7 @@ pub fn initial_state(alloc: alloc::Global, globals: &[Global]) -> Result<State, 
     })
 }
 
-fn pushed(term: Term, mut state: State) -> Result<State, Stop>
+fn pushed(term: Term, mut state: State) -> Result<State, Stop<Why>>
     ensures { IsSaid result (made (record state { operands = term ∷ state.operands })) }
 {
     state.operands.push(term)?;
@@ -146,7 +151,7 @@ fn with_set(k: u32, mut state: State) -> State
 }
 
 /// What an instruction does.
-pub fn after(instr: &Instr, mut state: State) -> Result<State, Stop>
+pub fn after(instr: &Instr, mut state: State) -> Result<State, Stop<Why>>
     ensures { IsSaid result (after instr.now state) }
 {
     match instr {

@@ -17,7 +17,7 @@ mod walk;
 
 pub use answer::{Answer, CheckFault, LimitWord, Reason};
 pub use check::check_module;
-pub use laws::{derivations_are_exact, derivations_are_sound};
+pub use laws::{derivations_are_exact, derivations_are_sound, outlines_keep_the_invariant};
 pub use notes::{
     Assertion, Formula, FuncNotes, Initial, Move, Note, Notes, Ref, Rule, Step, Use, With,
 };

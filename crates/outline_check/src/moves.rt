@@ -1,7 +1,7 @@
 ghost use Rattle.std.specs.Prelude.{◌≡◌, length};
 ghost use Rattle.std.specs.Option.{option_copied};
 ghost use Rattle.std.specs.List.{list_all};
-ghost use Rattle.outline_check.specs.Refusals.{IsSaid};
+ghost use Rattle.outline_check.specs.Refusals.{HasMemory, IsSaid};
 ghost use Rattle.outline_check.specs.Outlines.{in_scope, had, moved, are_facts, entailed, facts_of, stepped, ended};
 
 use crate::answer::Reason;
@@ -9,7 +9,7 @@ use crate::derivation::{fact_of, first_bad, is_at};
 use crate::effect::{after, with_fact};
 use crate::notes::{Formula, Move, Note, Step, Use};
 use crate::state::State;
-use crate::stop::Stop;
+use crate::stop::{Stop, Why};
 use std::alloc::Global;
 use wasm_syntax::Instr;
 
@@ -33,22 +33,22 @@ fn are_steps_in_scope(globals: usize, steps: &[Step]) -> bool
 }
 
 /// The move `have`.
-fn had(alloc: Global, formula: Formula, steps: &[Step], state: State) -> Result<State, Stop>
+fn had(alloc: Global, formula: Formula, steps: &[Step], state: State) -> Result<State, Stop<Why>>
     ensures { IsSaid result (had formula steps.now state) }
 {
     let globals = state.globals.as_slice();
     if !(in_scope(globals.len(), formula) && are_steps_in_scope(globals.len(), steps)) {
-        return Err(Stop::Reason(Reason::Scope));
+        return Err(Stop::Refused(Why::Reason(Reason::Scope)));
     }
     let goal = fact_of(globals, formula);
     match first_bad(alloc, globals, state.facts.as_slice(), goal, steps)? {
-        Some(k) => Err(Stop::Reason(Reason::Derivation(k))),
+        Some(k) => Err(Stop::Refused(Why::Reason(Reason::Derivation(k)))),
         None => with_fact(goal, state),
     }
 }
 
 /// The state after moves.
-pub fn moved(alloc: Global, moves: &[Move], mut state: State) -> Result<State, Stop>
+pub fn moved(alloc: Global, moves: &[Move], mut state: State) -> Result<State, Stop<Why>>
     ensures { IsSaid result (moved moves.now state) }
 {
     for step in moves {
@@ -72,13 +72,14 @@ fn are_facts(state: &State, numbers: &[u32], formulas: &[Formula]) -> bool
 }
 
 /// Whether the state entails the formulas by the facts of these numbers.
-pub fn entailed(formulas: &[Formula], numbers: &[u32], state: &State) -> Result<(), Stop>
-    ensures { result ≡ entailed formulas.now numbers.now state.now }
+pub fn entailed(formulas: &[Formula], numbers: &[u32], state: &State) -> Result<(), Stop<Why>>
+    ensures said { IsSaid result (entailed formulas.now numbers.now state.now) }
+    ensures memory { HasMemory result }
 {
     if numbers.len() != formulas.len() {
-        Err(Stop::Reason(Reason::Use))
+        Err(Stop::Refused(Why::Reason(Reason::Use)))
     } else if !are_facts(state, numbers, formulas) {
-        Err(Stop::Reason(Reason::Fact))
+        Err(Stop::Refused(Why::Reason(Reason::Fact)))
     } else {
         Ok(())
     }
@@ -99,7 +100,7 @@ pub fn stepped(
     note: Option<&Note>,
     instr: &Instr,
     state: State,
-) -> Result<State, Stop>
+) -> Result<State, Stop<Why>>
     ensures { IsSaid result (stepped (option_copied note.entry) instr.now state) }
 {
     match note {
@@ -108,7 +109,7 @@ pub fn stepped(
             let state = moved(alloc, note.moves.as_slice(), state)?;
             match note.used {
                 Use::Nothing => after(instr, state),
-                Use::With(_) => Err(Stop::Reason(Reason::Use)),
+                Use::With(_) => Err(Stop::Refused(Why::Reason(Reason::Use))),
             }
         }
     }
@@ -120,7 +121,7 @@ pub fn ended(
     invariant: &[Formula],
     note: Option<&Note>,
     state: State,
-) -> Result<(), Stop>
+) -> Result<(), Stop<Why>>
     ensures { IsSaid result (ended invariant.now (option_copied note.entry) state) }
 {
     match note {

@@ -1,51 +1,48 @@
-ghost use Rattle.std.specs.Prelude.{◌≡◌};
-ghost use Rattle.outline_check.specs.Refusals.{stopped_at, placed, answered};
+ghost use Rattle.std.specs.Prelude.{◌≡◌, ◌≢◌, Result};
+ghost use Rattle.outline_check.specs.declared.stop.Refusal.{Refusal};
+ghost use Rattle.outline_check.specs.Refusals.{HasMemory, failed, stops_at, IsSaid, IsAnswer, answered};
 
 use crate::answer::{Answer, CheckFault};
-use crate::stop::{Refusal, Stop};
-
-fn stopped_at(at: usize, function: Option<u32>, stop: Stop) -> Refusal
-    ensures { result ≡ stopped_at at function stop }
-{
-    match stop {
-        Stop::Reason(reason) => Refusal::Failed {
-            at,
-            function,
-            reason,
-        },
-        Stop::Limit(word) => Refusal::Limit { at, word },
-        Stop::OutOfMemory => Refusal::OutOfMemory,
-    }
-}
+use crate::stop::{Refusal, Stop, Why};
 
 /// The outcome, with the place and the function where it is a refusal.
-pub fn placed<T>(at: usize, function: Option<u32>, outcome: Result<T, Stop>) -> Result<T, Refusal>
-    ensures { result ≡ placed at function outcome }
+pub fn placed<T>(
+    at: usize,
+    function: Option<u32>,
+    outcome: Result<T, Stop<Why>>,
+) -> Result<T, Stop<Refusal>>
+    ensures { result ≡ stops_at at function outcome }
 {
     match outcome {
         Ok(value) => Ok(value),
-        Err(stop) => Err(stopped_at(at, function, stop)),
+        Err(Stop::Refused(why)) => Err(Stop::Refused(Refusal { at, function, why })),
+        Err(Stop::OutOfMemory) => Err(Stop::OutOfMemory),
     }
 }
 
-/// What the check answers for the tests of a whole module.
-pub fn answered(outcome: Result<(), Refusal>) -> Result<Answer, CheckFault>
-    ensures { result ≡ answered outcome }
+fn failed(refusal: Refusal) -> Result<Answer, CheckFault>
+    ensures said { IsAnswer result (failed refusal) }
+    ensures memory { result ≢ Err CheckFault.OutOfMemory }
 {
-    match outcome {
-        Ok(()) => Ok(Answer::Verified),
-        Err(
-            Refusal::Failed {
-                at,
-                function,
-                reason,
-            },
-        ) => Ok(Answer::Failed {
+    let Refusal { at, function, why } = refusal;
+    match why {
+        Why::Reason(reason) => Ok(Answer::Failed {
             at,
             function,
             reason,
         }),
-        Err(Refusal::Limit { at, word }) => Err(CheckFault::Limit { at, word }),
-        Err(Refusal::OutOfMemory) => Err(CheckFault::OutOfMemory),
+        Why::Limit(word) => Err(CheckFault::Limit { at, word }),
+    }
+}
+
+/// What the check answers for the tests of a whole module.
+pub fn answered(outcome: Result<(), Stop<Refusal>>) -> Result<Answer, CheckFault>
+    ensures said { (said : Result (Unit {0}) Refusal) → IsSaid outcome said → IsAnswer result (answered said) }
+    ensures memory { HasMemory outcome → result ≢ Err CheckFault.OutOfMemory }
+{
+    match outcome {
+        Ok(()) => Ok(Answer::Verified),
+        Err(Stop::Refused(refusal)) => failed(refusal),
+        Err(Stop::OutOfMemory) => Err(CheckFault::OutOfMemory),
     }
 }

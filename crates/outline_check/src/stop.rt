@@ -4,33 +4,32 @@ ghost use Rattle.outline_check.specs.declared.stop.Stop.TheVariants.{OutOfMemory
 use crate::answer::{LimitWord, Reason};
 use wasm_values::OutOfMemory;
 
-/// Why a part of the check stops.
+/// Why a part of the check refuses.
 #[derive(Clone, Copy, Debug, PartialEq, Eq)]
-pub enum Stop {
+pub enum Why {
     Reason(Reason),
     Limit(LimitWord),
-    OutOfMemory,
 }
 
-/// Why the check stops, and where.
+/// A refusal with its place, and with its function where one is meant.
 #[derive(Clone, Copy, Debug, PartialEq, Eq)]
-pub enum Refusal {
-    Failed {
-        at: usize,
-        function: Option<u32>,
-        reason: Reason,
-    },
-    Limit {
-        at: usize,
-        word: LimitWord,
-    },
+pub struct Refusal {
+    pub at: usize,
+    pub function: Option<u32>,
+    pub why: Why,
+}
+
+/// What stops a part of the check: a refusal, or want of memory.
+#[derive(Clone, Copy, Debug, PartialEq, Eq)]
+pub enum Stop<W> {
+    Refused(W),
     OutOfMemory,
 }
 
-impl From<OutOfMemory> for Stop {
+impl<W> From<OutOfMemory> for Stop<W> {
     ghost from_gives = { λ _ stop. stop ≡ OutOfMemory };
 
-    fn from(_error: OutOfMemory) -> Stop {
+    fn from(_error: OutOfMemory) -> Stop<W> {
         Stop::OutOfMemory
     }
 }

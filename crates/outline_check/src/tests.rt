@@ -129,44 +129,46 @@ fn sample(alloc: Global, n: u32) -> Result<(Module, Marks), OutOfMemory>
     Ok((m, marks))
 }
 
-fn formula(value: i128) -> Formula {
-    Formula { global: 0, value }
+/// `(= (global K) 7)`
+fn is_seven(global: u32) -> Formula {
+    Formula { global, value: 7 }
 }
 
-/// `have (= (global 0) 7)` by `eval`
-fn have(alloc: Global) -> Result<List<Move>, OutOfMemory> {
+/// `have (= (global K) 7)` by `eval`
+fn have(alloc: Global, global: u32) -> Result<List<Move>, OutOfMemory> {
     let step = Step {
         rule: Rule::Eval,
-        formula: formula(7),
+        formula: is_seven(global),
         refs: List::new(alloc),
     };
-    one(alloc, Move::Have(formula(7), one(alloc, step)?))
+    one(alloc, Move::Have(is_seven(global), one(alloc, step)?))
 }
 
-/// Notes by which the global is always 7.
-fn sample_notes(alloc: Global) -> Result<Notes, OutOfMemory> {
+/// Notes by which the global is always 7, with a note at instruction `at` whose `with` names the fact `fact`.
+fn sample_notes(alloc: Global, global: u32, at: u32, fact: u32) -> Result<Notes, OutOfMemory> {
     let initial = Initial {
-        moves: have(alloc)?,
+        moves: have(alloc, global)?,
         with: With {
             facts: one(alloc, 0)?,
         },
     };
     let used = Use::With(With {
-        facts: one(alloc, 3)?,
+        facts: one(alloc, fact)?,
     });
     let note = Note {
-        at: 2,
-        moves: have(alloc)?,
+        at,
+        moves: have(alloc, global)?,
         used,
     };
     let func = FuncNotes {
         func: 0,
         notes: one(alloc, note)?,
     };
+    let invariant = Assertion {
+        formulas: one(alloc, is_seven(global))?,
+    };
     Ok(Notes {
-        invariant: Assertion {
-            formulas: one(alloc, formula(7))?,
-        },
+        invariant,
         initial,
         funcs: one(alloc, func)?,
     })
@@ -175,7 +177,7 @@ fn sample_notes(alloc: Global) -> Result<Notes, OutOfMemory> {
 #[test]
 fn one_private_global(rt: HostRuntime) -> Result<(), Fail> {
     let alloc = rt.alloc();
-    let notes = sample_notes(alloc)?;
+    let notes = sample_notes(alloc, 0, 2, 3)?;
     let (kept, marks) = sample(alloc, 7)?;
     assert_eq!(rt;
         check_module(alloc, &kept, &notes, &marks),
@@ -189,5 +191,27 @@ fn one_private_global(rt: HostRuntime) -> Result<(), Fail> {
         reason,
     };
     assert_eq!(rt; check_module(alloc, &changed, &notes, &marks), Ok(failed));
+    Ok(())
+}
+
+#[test]
+fn refusals(rt: HostRuntime) -> Result<(), Fail> {
+    let alloc = rt.alloc();
+    let (kept, marks) = sample(alloc, 7)?;
+    let at_end = Some(0);
+    for (global, at, fact, place, function, reason) in [
+        (1, 3, 3, 0, None, Reason::Notes),
+        (1, 2, 3, 0, None, Reason::Scope),
+        (0, 2, 2, 0x2a, at_end, Reason::Fact),
+        (0, 1, 3, 0x28, at_end, Reason::Derivation(0)),
+    ] {
+        let notes = sample_notes(alloc, global, at, fact)?;
+        let failed = Answer::Failed {
+            at: place,
+            function,
+            reason,
+        };
+        assert_eq!(rt; check_module(alloc, &kept, &notes, &marks), Ok(failed));
+    }
     Ok(())
 }

@@ -2,7 +2,7 @@ ghost use Rattle.std.specs.Prelude.{◌≡◌, ◌+◌, ◌<◌, true, ◌∷◌
 ghost use Rattle.std.specs.List.{list_all};
 ghost use Rattle.std.specs.Option.{option_copied};
 ghost use Rattle.wasm_syntax.specs.FlatForm.{is_simple, flat_body};
-ghost use Rattle.outline_check.specs.Refusals.{IsSaidThere};
+ghost use Rattle.outline_check.specs.Refusals.{IsSaid};
 ghost use Rattle.outline_check.specs.Outlines.{note_at, rise_within, run_from, function_outline};
 ghost use Rattle.outline_check.specs.Cursors.{IsCursor};
 
@@ -11,7 +11,7 @@ use crate::moves::{ended, stepped};
 use crate::notes::{Formula, Note};
 use crate::place::placed;
 use crate::state::State;
-use crate::stop::Refusal;
+use crate::stop::{Refusal, Stop};
 use std::alloc::Global;
 use wasm_syntax::{Code, Flat, Instr};
 
@@ -50,11 +50,11 @@ fn run(
     places: &[usize],
     code: &Code,
     mut state: State,
-) -> Result<(), Refusal>
+) -> Result<(), Stop<Refusal>>
     requires simple { list_all is_simple code.now ≡ true }
     requires notes { IsCursor (λ note. note.at) notes.now 0 0 }
     requires places { length places.now ≡ length (flat_body code.now) }
-    ensures { IsSaidThere result (run_from invariant.now function notes.now places.now 0 code.now state) }
+    ensures { IsSaid result (run_from invariant.now function notes.now places.now 0 code.now state) }
 {
     let last = code.len() - 1;
     let mut cursor = 0;
@@ -81,11 +81,11 @@ pub fn check_function(
     places: &[usize],
     globals: usize,
     code: &Code,
-) -> Result<(), Refusal>
+) -> Result<(), Stop<Refusal>>
     requires simple { list_all is_simple code.now ≡ true }
     requires notes { rise_within 0 (length (flat_body code.now)) (map (λ note. note.at) notes.now) ≡ true }
     requires places { length places.now ≡ length (flat_body code.now) }
-    ensures { IsSaidThere result (function_outline invariant.now function notes.now places.now globals code.now) }
+    ensures { IsSaid result (function_outline invariant.now function notes.now places.now globals code.now) }
 {
     let state = placed(
         places[0],

@@ -1,4 +1,4 @@
-use Rattle.std.proofs.Common.{◌≡◌, refl, arith}
+use Rattle.std.proofs.Common.{arith}
 use Rattle.outline_check.proofs.WalkLemmas.{length-simple}
 use Rattle.outline_check.proofs.tests.body.Goals as goal
 

@@ -1,4 +1,4 @@
-use Rattle.std.proofs.Common.{◌≡◌, ℕ, List, length, refl, arith}
+use Rattle.std.proofs.Common.{refl}
 use Rattle.outline_check.proofs.WalkLemmas.{length-simple}
 use Rattle.outline_check.proofs.tests.sample.Goals as goal
 
