@@ -1,15 +1,14 @@
 -- The same for instructions.
-use Rattle.std.proofs.Common.{◌≡◌, ℕ, zero, suc, ◌+◌, ◌-◌, ◌%◌, ◌^◌, ◌≤◌, ◌<◌, ◌⊎◌, Bool, true, false, cond, ltb, eqb, List, [], ◌∷◌, ◌++◌, length, Option, Some, None, refl, sym, ap, subst, ◌∙◌, append_assoc, arith, inl, inr, length-append}
+use Rattle.std.proofs.Common.{◌≡◌, ℕ, zero, suc, ◌+◌, ◌%◌, ◌≤◌, ◌<◌, ◌⊎◌, Bool, true, false, cond, ltb, eqb, List, [], ◌∷◌, ◌++◌, length, Option, Some, refl, sym, ap, subst, ◌∙◌, append_assoc, arith, inl, inr, length-append}
 use Rattle.std.proofs.lemmas.Bool.{eqb-true, cases_lt, ltb-true, lt-ltb, le-ltb}
-use Rattle.std.proofs.lemmas.List.{append-nil}
 use Rattle.std.proofs.lemmas.List.Concat.{flat_map-cons}
-use Rattle.std.specs.List.{flat_map, AllByRecursion}
+use Rattle.std.specs.List.{flat_map}
 use Rattle.wasm_values.specs.declared.number.Val.TheVariants as value
 use Rattle.wasm_syntax.specs.declared.instr.Instr.{Instr}
 use Rattle.wasm_syntax.specs.declared.instr.Instr.TheVariants as instr
 use Rattle.wasm_syntax.specs.declared.instr.Plain.TheVariants.{Nop, Drop}
 use Rattle.wasm_syntax.specs.declared.flat.Flat.TheVariants.{End}
-use Rattle.wasm_syntax.specs.FlatForm.{flat_of, flat_step, flat, flat_body}
+use Rattle.wasm_syntax.specs.FlatForm.{flat_of, flat, flat_body}
 use Rattle.wasm_syntax.proofs.FlatLemmas.{flat_of-simple}
 use Rattle.first_reader.specs.FirstBytes.{instr_bytes, expr_bytes, IsSmallConstant, IsSmallInstr, AreSmallInstrs}
 use Rattle.first_reader.specs.Reading.{◌>>=◌, number_at}

@@ -1,22 +1,19 @@
 -- The same for entries and modules.
-use Rattle.std.proofs.Common.{eq-eqb, ◌≡◌, ℕ, zero, suc, ◌+◌, ◌-◌, ◌%◌, ◌^◌, ◌≤◌, ◌<◌, ◌⊎◌, Bool, true, false, ◌&&◌, cond, ltb, leb, eqb, List, [], ◌∷◌, ◌++◌, length, get_or, Option, Some, None, refl, sym, ap, subst, ◌∙◌, append_assoc, arith, inl, inr, length-append}
+use Rattle.std.proofs.Common.{eq-eqb, ◌≡◌, ℕ, zero, suc, ◌+◌, ◌%◌, ◌≤◌, ◌<◌, Bool, true, false, ◌&&◌, cond, leb, eqb, List, [], ◌∷◌, ◌++◌, length, get_or, Some, None, refl, sym, ap, subst, ◌∙◌, append_assoc, arith}
 use Rattle.std.proofs.lemmas.Bool.{eqb-true, leb-true, le-leb}
 use Rattle.std.proofs.lemmas.List.{append-nil}
 use Rattle.std.proofs.lemmas.List.Concat.{flat_map-cons}
 use Rattle.std.proofs.lemmas.Str.{IsUtf8-from_ascii}
 use Rattle.std.specs.Str.{IsUtf8}
 use Rattle.std.specs.List.{flat_map, AllByRecursion, list_all}
-use Rattle.wasm_values.specs.declared.number.ValType.TheVariants as type
-use Rattle.wasm_values.specs.declared.number.Val.TheVariants as value
 use Rattle.wasm_syntax.specs.declared.instr.Instr.{Instr}
-use Rattle.wasm_syntax.specs.declared.instr.Instr.TheVariants as instr
 use Rattle.wasm_syntax.specs.declared.module.Func.{Func}
 use Rattle.wasm_syntax.specs.declared.module.Global.{Global}
 use Rattle.wasm_syntax.specs.declared.module.Export.{Export}
 use Rattle.wasm_syntax.specs.declared.module.ExportKind.TheVariants as kind
 use Rattle.wasm_syntax.specs.declared.module.Module.{Module}
 use Rattle.wasm_syntax.specs.FlatForm.{flat_body}
-use Rattle.first_reader.specs.FirstBytes.{sized, vector, section, expr_bytes, head_bytes, func_type_bytes, global_bytes, export_bytes, kind_bytes, code_bytes, first_bytes, IsSmall, IsSmallConstant, IsSmallInstr, AreSmallInstrs, IsPrinted, IsSmallExport, IsSmallFunc, IsSmallGlobal, IsSmallModule, IsSmallSection}
+use Rattle.first_reader.specs.FirstBytes.{sized, vector, section, expr_bytes, head_bytes, func_type_bytes, global_bytes, export_bytes, code_bytes, first_bytes, IsSmallConstant, IsPrinted, IsSmallExport, IsSmallFunc, IsSmallSection}
 use Rattle.first_reader.specs.Reading.{◌>>=◌, number_at, after, sized_at, section_at, ended}
 use Rattle.first_reader.specs.ReadingModule.{constant_at, instrs_at, is_printed, func_type_at, new_global, global_at, name_at, export_at, new_func, func_at, new_module, module_at}
 use Rattle.first_reader.proofs.PartLaws.{some_is, bind_some, passed, passed_then, number_takes, number_again, after_takes, after_again, sized_takes, sized_again, ended_takes}

@@ -1,8 +1,7 @@
 -- The same for the things that notes are made of.
-use Rattle.std.proofs.Common.{◌≡◌, ℕ, zero, suc, ◌+◌, ◌-◌, ◌≤◌, ◌<◌, ◌^◌, ℤ, pos, negsuc, Bool, true, false, ◌&&◌, cond, ltb, leb, eqb, List, [], ◌∷◌, ◌++◌, length, Option, Some, None, Result, Ok, Err, refl, sym, ap, subst, ◌∙◌, append_assoc, arith, length-append, codes, eq-eqb}
+use Rattle.std.proofs.Common.{◌≡◌, ℕ, ◌+◌, ◌-◌, ◌≤◌, ◌<◌, pos, Bool, true, false, ◌&&◌, cond, ltb, leb, eqb, List, [], ◌∷◌, ◌++◌, length, Option, Some, None, Result, Ok, Err, refl, sym, ap, subst, ◌∙◌, append_assoc, arith, codes, eq-eqb}
 use Rattle.std.specs.Prelude.{IfOk, sum_by}
-use Rattle.std.proofs.lemmas.List.{append-nil}
-use Rattle.std.proofs.lemmas.Bool.{lt-ltb, ltb-true, ltb-false, le-ltb, le-leb, leb-true, eqb-true}
+use Rattle.std.proofs.lemmas.Bool.{lt-ltb, ltb-true, ltb-false, le-leb, leb-true, eqb-true}
 use Rattle.std.proofs.lemmas.List.Sums.{sum_by-cons}
 use Rattle.std.proofs.lemmas.Slice.Eq.{bytes_eq-Decides}
 use Rattle.std.specs.Str.{bytes_eq}
@@ -25,12 +24,12 @@ use Rattle.outline_check.specs.declared.notes.Initial.{Initial}
 use Rattle.outline_check.specs.declared.notes.Notes.{Notes}
 use Rattle.first_reader.specs.declared.error.ReadError.{ReadError}
 use Rattle.first_reader.specs.Lexemes.{Lexeme, Open, Close, Number, Word, lexemes}
-use Rattle.first_reader.specs.FirstNotes.{natural, list, nothing, formula_parts, rule_word, ref_parts, step_parts, move_parts, with_parts, use_parts, note_parts, func_parts, assertion_parts, initial_parts, notes_parts, moves_in, moves_of, IsNatural, IsNoteFormula, IsNoteRef, IsNoteStep, IsNoteMove, IsNoteWith, IsNoteUse, IsNote, IsFuncNotes, AreFirstNotes, IsFirstText}
+use Rattle.first_reader.specs.FirstNotes.{natural, formula_parts, rule_word, ref_parts, step_parts, move_parts, with_parts, use_parts, note_parts, func_parts, assertion_parts, initial_parts, notes_parts, moves_in, moves_of, IsNatural, IsNoteFormula, IsNoteRef, IsNoteStep, IsNoteMove, IsNoteWith, IsNoteUse, IsNote, IsFuncNotes, IsFirstText}
 use Rattle.first_reader.specs.Reading.{◌>>=◌, Gives}
-use Rattle.first_reader.specs.ReadingLexemes.{open_at, close_at, word_at, number_at, u32_at, head_at, empty_at, many_at, list_at}
+use Rattle.first_reader.specs.ReadingLexemes.{open_at, close_at, number_at, u32_at, head_at, empty_at, many_at, list_at}
 use Rattle.first_reader.specs.ReadingNotes.{opens, closes, counts, moves, formula_at, rule_at, ref_word_at, ref_of, ref_at, step_at, move_at, with_at, use_at, note_at, func_at, only_at, assertion_at, initial_at, done, notes_at, left_after, left_after_all, is_left, has_few_moves, first_notes}
-use Rattle.first_reader.proofs.PartLaws.{some_is, bind_some, passed, passed_not, passed_then}
-use Rattle.first_reader.proofs.NoteParts.{open_takes, close_takes, word_takes, word_again, number_takes, u32_takes, u32_again, head_takes, head_again, empty_takes, empty_again, ReadsParts, many_takes, many_again, list_takes, list_again}
+use Rattle.first_reader.proofs.PartLaws.{some_is, bind_some, passed}
+use Rattle.first_reader.proofs.NoteParts.{open_takes, close_takes, number_takes, u32_takes, u32_again, head_takes, head_again, empty_takes, empty_again, ReadsParts, many_takes, many_again, list_takes, list_again}
 
 abbrev S : Type 0
 S = List Lexeme

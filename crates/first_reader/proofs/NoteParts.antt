@@ -1,13 +1,12 @@
 -- What a reader of notes takes is what was spelled, and what was spelled is read again.
-use Rattle.std.proofs.Common.{◌≡◌, ℕ, zero, suc, ◌+◌, ◌-◌, ◌≤◌, ◌<◌, ◌^◌, ℤ, pos, negsuc, Bool, true, false, cond, ltb, eqb, List, [], ◌∷◌, ◌++◌, length, Option, Some, None, refl, sym, ap, subst, ◌∙◌, append_assoc, arith, length-append}
-use Rattle.std.proofs.lemmas.List.{append-nil}
+use Rattle.std.proofs.Common.{◌≡◌, ℕ, zero, suc, ◌≤◌, ◌<◌, ℤ, pos, negsuc, Bool, true, false, cond, ltb, List, [], ◌∷◌, ◌++◌, length, Option, Some, None, refl, sym, ap, subst, ◌∙◌, append_assoc, arith, length-append}
 use Rattle.std.proofs.lemmas.List.Concat.{flat_map-cons}
 use Rattle.std.proofs.lemmas.Bool.{lt-ltb, ltb-true}
 use Rattle.std.proofs.lemmas.Slice.Eq.{bytes_eq-Decides}
 use Rattle.std.specs.Str.{bytes_eq}
 use Rattle.std.specs.List.{flat_map, AllByRecursion}
 use Rattle.first_reader.specs.Lexemes.{Lexeme, Open, Close, Number, Word}
-use Rattle.first_reader.specs.FirstNotes.{natural, list, nothing, IsNatural}
+use Rattle.first_reader.specs.FirstNotes.{IsNatural}
 use Rattle.first_reader.specs.Reading.{◌>>=◌}
 use Rattle.first_reader.specs.ReadingLexemes.{open_at, close_at, word_at, number_at, u32_of, u32_at, head_at, empty_at, many_from, many_at, list_at}
 use Rattle.first_reader.proofs.PartLaws.{some_is, bind_some, passed, passed_then}

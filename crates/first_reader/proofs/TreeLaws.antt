@@ -1,5 +1,5 @@
 -- The tests of a module that was read are the conditions of the form First.
-use Rattle.std.proofs.Common.{◌≡◌, ◌≢◌, ℕ, zero, suc, ◌+◌, ◌%◌, ◌^◌, ◌≤◌, ◌<◌, ◌⊎◌, Bool, true, false, not, ◌&&◌, cond, ltb, eqb, List, [], ◌∷◌, ◌++◌, length, get_or, Option, Some, None, Result, Ok, Err, refl, sym, ap, subst, ◌∙◌, arith, inl, inr, eq-eqb, All, length-append}
+use Rattle.std.proofs.Common.{◌≡◌, ◌≢◌, ℕ, zero, suc, ◌+◌, ◌<◌, Bool, true, false, not, ◌&&◌, cond, ltb, List, [], ◌∷◌, length, Option, Some, None, Result, Ok, Err, refl, sym, ap, subst, ◌∙◌, arith, inl, inr, All, length-append}
 use Rattle.std.specs.Prelude.{IfOk, AllPairs}
 use Rattle.std.proofs.lemmas.Bool.{false≢true, eqb-true, ltb-true, lt-ltb}
 use Rattle.std.proofs.lemmas.Slice.Eq.{bytes_eq-Decides}
@@ -23,11 +23,11 @@ use Rattle.wasm_syntax.specs.declared.flat.Flat.TheVariants.{End}
 use Rattle.wasm_syntax.specs.FlatForm.{flat, flat_body}
 use Rattle.outline_check.specs.First.{HasPlaceEach, HasPlaces, IsU32, IsFirstBody, IsFirstFunc, IsFirstGlobal, IsI32Const, IsFunction, IsFirstExport, IsFirst, AreBytes, IsEmptyType}
 use Rattle.first_reader.specs.declared.error.ReadError.{ReadError}
-use Rattle.first_reader.specs.FirstBytes.{instr_bytes, expr_bytes, code_bytes, code_at, places, code_places, global_bytes, kind_bytes, first_bytes, first_marks, empty_type, IsSmallConstant, IsSmallInstr, AreSmallInstrs, IsSmallKind, IsPrinted, IsSmallExport, IsSmallFunc, IsSmallGlobal, IsSmallModule}
+use Rattle.first_reader.specs.FirstBytes.{instr_bytes, code_bytes, code_at, places, code_places, global_bytes, kind_bytes, first_marks, empty_type, IsSmallConstant, AreSmallInstrs, IsSmallKind, IsPrinted, IsSmallExport, IsSmallFunc, IsSmallGlobal, IsSmallModule}
 use Rattle.first_reader.specs.First.{IsFirstBytes}
-use Rattle.first_reader.specs.Reading.{◌>>=◌, Gives}
+use Rattle.first_reader.specs.Reading.{Gives}
 use Rattle.first_reader.specs.ReadingModule.{new_global, new_module, module_at}
-use Rattle.first_reader.specs.Trees.{less, depth_after, is_body, is_function, lacks, names_differ, is_first, first_module}
+use Rattle.first_reader.specs.Trees.{less, is_body, is_function, lacks, names_differ, is_first, first_module}
 use Rattle.first_reader.proofs.PartLaws.{bind_some, passed}
 use Rattle.first_reader.proofs.InstrLaws.{body_short, flat_length}
 use Rattle.first_reader.proofs.ModuleLaws.{IsReadGlobal, IsReadFunc, IsRead, module_takes, module_again}

@@ -1,5 +1,5 @@
 -- Reading notes of the form FirstNotes from left to right.
-use Rattle.std.specs.Prelude.{◌≡◌, ℕ, ◌+◌, ◌-◌, ℤ, pos, Bool, true, false, ◌&&◌, List, [], ◌∷◌, length, Option, Some, None, nat_lt, nat_le, ◌==◌, codes, if◌then◌else◌}
+use Rattle.std.specs.Prelude.{ℕ, ◌-◌, Bool, true, false, ◌&&◌, List, [], ◌∷◌, length, Option, Some, None, nat_lt, nat_le, ◌==◌, codes, if◌then◌else◌}
 use Rattle.std.specs.Str.{bytes_eq}
 use Rattle.outline_check.specs.declared.notes.Rule.{Rule}
 use Rattle.outline_check.specs.declared.notes.Rule.TheVariants as rule
@@ -18,8 +18,8 @@ use Rattle.outline_check.specs.declared.notes.FuncNotes.{FuncNotes}
 use Rattle.outline_check.specs.declared.notes.Initial.{Initial}
 use Rattle.outline_check.specs.declared.notes.Notes.{Notes}
 use Rattle.first_reader.specs.Lexemes.{Lexeme, Open, Close, Number, Word, lexemes}
-use Rattle.first_reader.specs.Reading.{◌>>=◌, ended}
-use Rattle.first_reader.specs.ReadingLexemes.{open_at, close_at, word_at, number_at, u32_at, head_at, empty_at, many_at, list_at}
+use Rattle.first_reader.specs.Reading.{◌>>=◌}
+use Rattle.first_reader.specs.ReadingLexemes.{open_at, close_at, number_at, u32_at, head_at, empty_at, many_at, list_at}
 
 -- what a thing begins with: a parenthesis, a number, or the head of a move
 abbrev pub opens : List Lexeme → Bool

@@ -5,7 +5,6 @@ use Rattle.std.specs.Str.{bytes_eq}
 use Rattle.wasm_values.specs.declared.number.Val.TheVariants as value
 use Rattle.wasm_syntax.specs.declared.instr.Instr.{Instr, Plain, Const, GlobalGet, GlobalSet}
 use Rattle.wasm_syntax.specs.declared.instr.Plain.TheVariants.{Nop, Drop}
-use Rattle.wasm_syntax.specs.declared.module.Func.{Func}
 use Rattle.wasm_syntax.specs.declared.module.Export.{Export}
 use Rattle.wasm_syntax.specs.declared.module.ExportKind.{ExportKind}
 use Rattle.wasm_syntax.specs.declared.module.ExportKind.TheVariants as kind

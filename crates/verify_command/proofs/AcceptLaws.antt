@@ -1,5 +1,5 @@
 -- A report is good exactly where the words and files are accepted.
-use Rattle.std.proofs.Common.{◌≡◌, ℕ, ◌≤◌, ◌⊎◌, Bool, true, false, cond, ltb, List, [], ◌∷◌, length, Option, Some, None, Result, Ok, Err, refl, sym, ap, subst, ◌∙◌, arith, inl, inr, codes}
+use Rattle.std.proofs.Common.{◌≡◌, ℕ, ◌≤◌, Bool, true, false, cond, ltb, List, [], ◌∷◌, length, Option, Some, None, Result, Ok, Err, refl, sym, subst, inl, inr, codes}
 use Rattle.std.specs.Prelude.{IfSome}
 use Rattle.std.specs.Str.{bytes_eq}
 use Rattle.std.proofs.lemmas.Bool.{ltb-false, le-ltb}
@@ -21,8 +21,8 @@ use Rattle.first_reader.proofs.TreeLaws as trees
 use Rattle.first_reader.proofs.NoteLaws as notes_laws
 use Rattle.verify_command.specs.declared.status.Status.{Status}
 use Rattle.verify_command.specs.declared.status.Status.TheVariants as status
-use Rattle.verify_command.specs.Reports.{Report, module_limit, notes_limit, outlined, noted, read_as, judged, with_contents, module_too_long, notes_too_long, notes_report, verify_report, is_listed, listed_report, report, words_refused, Comes}
-use Rattle.verify_command.specs.Accepted.{Accepts, IsAccepted}
+use Rattle.verify_command.specs.Reports.{Report, module_limit, notes_limit, outlined, noted, read_as, judged, with_contents, module_too_long, notes_too_long, notes_report, verify_report, report, words_refused, Comes}
+use Rattle.verify_command.specs.Accepted.{IsAccepted}
 
 good_outline : (r : Result Answer CheckFault) → (outlined r).status ≡ status.Good → r ≡ Ok answer.Verified
 good_outline (Ok answer.Verified) e = refl

@@ -1,5 +1,4 @@
 use Rattle.std.proofs.lemmas.Result.{err_from_is_err_and}
-use Rattle.first_reader.specs.Reading.{many}
 use Rattle.first_reader.proofs.Loop.{goes_on, stops, is_done}
 use Rattle.first_reader.proofs.entry.read_many.Goals as goal
 
