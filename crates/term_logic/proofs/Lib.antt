@@ -1,0 +1,5 @@
+pub mod Cells
+pub mod Formulas
+pub mod Interned
+pub mod Tables
+pub mod Trees

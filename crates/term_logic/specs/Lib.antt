@@ -1,0 +1,9 @@
+pub mod Extends
+pub mod Formulas
+pub mod Leaves
+pub mod Meaning
+pub mod Same
+pub mod Table
+pub mod Terms
+pub mod Views
+pub mod formers
