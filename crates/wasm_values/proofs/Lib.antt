@@ -1,0 +1,4 @@
+pub mod WidthLemmas
+pub mod CountLemmas
+pub mod RotationLemmas
+pub mod SignedLemmas
