@@ -3,3 +3,4 @@ pub mod Formulas
 pub mod Interned
 pub mod Tables
 pub mod Trees
+pub mod Truths

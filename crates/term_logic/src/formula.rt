@@ -1,5 +1,5 @@
-use crate::table::TermId;
 use crate::boxed::Boxed;
+use crate::table::TermId;
 
 /// A claim on terms of a table.
 #[derive(Debug, Drop)]

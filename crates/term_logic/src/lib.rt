@@ -2,11 +2,15 @@
 #![tactic(auto)]
 
 mod boxed;
+mod copy;
 mod count;
 mod formula;
+mod formula_view;
 mod leaves;
+mod put;
 mod table;
 mod term;
+mod view;
 
 pub use boxed::Boxed;
 pub use count::nodes;

@@ -1,6 +1,6 @@
+use crate::boxed::Boxed;
 use crate::term::{Place, Term};
 use indexmap::IndexMap;
-use crate::boxed::Boxed;
 use std::alloc::Global;
 use std::marker::Model;
 use wasm_values::{NumOp, OutOfMemory};
