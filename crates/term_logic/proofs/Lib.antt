@@ -4,3 +4,4 @@ pub mod Interned
 pub mod Tables
 pub mod Trees
 pub mod Truths
+pub mod Sameness

@@ -8,14 +8,17 @@ mod formula;
 mod formula_view;
 mod leaves;
 mod put;
+mod same;
 mod table;
 mod term;
+mod term_view;
 mod view;
 
 pub use boxed::Boxed;
 pub use count::nodes;
 pub use formula::IdFormula;
 pub use leaves::LeafIds;
+pub use same::same_term;
 pub use table::{TermCell, TermId, TermTable};
 pub use term::{Formula, Place, Term};
 
