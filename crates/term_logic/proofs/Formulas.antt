@@ -1,5 +1,5 @@
 -- How formulas over a table follow its growth.
-use Rattle.std.proofs.Common.{◌≡◌, ◌↔◌, ℕ, ◌<◌, ◌≤◌, List, [], ◌∷◌, map, length, Option, Some, None, IfSome, refl, sym, ap, subst, ◌∙◌, arith}
+use Rattle.std.proofs.Common.{◌≡◌, ◌↔◌, ℕ, ◌<◌, ◌≤◌, List, [], ◌∷◌, map, length, slice_get, Option, Some, None, IfSome, refl, sym, ap, subst, ◌∙◌, arith}
 use Rattle.std.proofs.lemmas.List.Elements.{All-head, All-tail}
 use Rattle.std.specs.List.{All}
 use Rattle.std.specs.Option.{option_map}
@@ -9,7 +9,9 @@ use Rattle.term_logic.specs.declared.term.Formula.TheOpen.{Formula-F}
 use Rattle.term_logic.specs.declared.term.Formula.TheOpen as tree
 use Rattle.term_logic.specs.declared.formula.IdFormula.{IdFormula, roll-IdFormula, out-IdFormula, roll-out-IdFormula, map-IdFormula, fold-roll-IdFormula, ind-IdFormula}
 use Rattle.term_logic.specs.declared.formula.IdFormula.TheOpen.{IdFormula-F, True, False, Eq, Le, Lt, Not, And, Or, Imp}
-use Rattle.term_logic.specs.declared.formula.IdFormula.TheVariants.{outs-True, outs-False, outs-Eq, outs-Le, outs-Lt, outs-Not, outs-And, outs-Or, outs-Imp}
+use Rattle.term_logic.specs.declared.term.Formula.TheVariants as tree_form
+use Rattle.term_logic.specs.declared.formula.IdFormula.TheVariants as form
+use Rattle.term_logic.specs.declared.formula.IdFormula.TheVariants.{rolls-True, rolls-False, rolls-Eq, rolls-Le, rolls-Lt, rolls-Not, rolls-And, rolls-Or, rolls-Imp, outs-True, outs-False, outs-Eq, outs-Le, outs-Lt, outs-Not, outs-And, outs-Or, outs-Imp}
 use Rattle.term_logic.specs.declared.leaves.LeafIds.{LeafIds}
 use Rattle.term_logic.specs.Table.{tree_at}
 use Rattle.term_logic.specs.Leaves.{place_id, leaves_of, LeavesWithin}
@@ -71,8 +73,8 @@ module _ (old new : List Term) (longer : length old ≤ length new) (kept : (i :
 
   leaves_kept : (l : LeafIds) → LeavesWithin (length old) l → leaves_of new l ≡ leaves_of old l
   leaves_kept l w = λ j. record {
-    variables = map_kept (tree_at new) (tree_at old) (λ i. i < length old) kept l.variables.now w.variables j;
-    own = map_kept (tree_at new) (tree_at old) (λ i. i < length old) kept l.own.now w.own j;
+    variable = λ k. place_kept (slice_get l.variables.now k) (w.variables k) j;
+    own = λ k. place_kept (slice_get l.own.now k) (w.own k) j;
     place = λ p. place_kept (place_id l p) (w.places p) j;
   }
 
@@ -97,3 +99,32 @@ module _ (ts : List Term) where
   out_formula_of f = ap (λ g. out-Formula (formula_of ts g)) (sym (roll-out-IdFormula f)) ∙ ap out-Formula (of_roll ts (out-IdFormula f)) ∙ out-roll-Formula (parts_of (out-IdFormula f))
 
 pub ruleset opened = (out_formula_of, outs-True, outs-False, outs-Eq, outs-Le, outs-Lt, outs-Not, outs-And, outs-Or, outs-Imp)
+
+-- what each form over the table stands for
+module _ (ts : List Term) where
+  pub formula_of-true : formula_of ts form.True ≡ tree_form.True
+  formula_of-true = ap (formula_of ts) (sym rolls-True) ∙ of_roll ts (True) ∙ tree_form.rolls-True
+
+  pub formula_of-false : formula_of ts form.False ≡ tree_form.False
+  formula_of-false = ap (formula_of ts) (sym rolls-False) ∙ of_roll ts (False) ∙ tree_form.rolls-False
+
+  pub formula_of-eq : (a b : ℕ) → formula_of ts (form.Eq a b) ≡ tree_form.Eq (tree_at ts a) (tree_at ts b)
+  formula_of-eq a b = ap (formula_of ts) (sym (rolls-Eq a b)) ∙ of_roll ts (Eq a b) ∙ tree_form.rolls-Eq _ _
+
+  pub formula_of-le : (a b : ℕ) → formula_of ts (form.Le a b) ≡ tree_form.Le (tree_at ts a) (tree_at ts b)
+  formula_of-le a b = ap (formula_of ts) (sym (rolls-Le a b)) ∙ of_roll ts (Le a b) ∙ tree_form.rolls-Le _ _
+
+  pub formula_of-lt : (a b : ℕ) → formula_of ts (form.Lt a b) ≡ tree_form.Lt (tree_at ts a) (tree_at ts b)
+  formula_of-lt a b = ap (formula_of ts) (sym (rolls-Lt a b)) ∙ of_roll ts (Lt a b) ∙ tree_form.rolls-Lt _ _
+
+  pub formula_of-not : (f : IdFormula) → formula_of ts (form.Not f) ≡ tree_form.Not (formula_of ts f)
+  formula_of-not f = ap (formula_of ts) (sym (rolls-Not f)) ∙ of_roll ts (Not f) ∙ tree_form.rolls-Not _
+
+  pub formula_of-and : (f g : IdFormula) → formula_of ts (form.And f g) ≡ tree_form.And (formula_of ts f) (formula_of ts g)
+  formula_of-and f g = ap (formula_of ts) (sym (rolls-And f g)) ∙ of_roll ts (And f g) ∙ tree_form.rolls-And _ _
+
+  pub formula_of-or : (f g : IdFormula) → formula_of ts (form.Or f g) ≡ tree_form.Or (formula_of ts f) (formula_of ts g)
+  formula_of-or f g = ap (formula_of ts) (sym (rolls-Or f g)) ∙ of_roll ts (Or f g) ∙ tree_form.rolls-Or _ _
+
+  pub formula_of-imp : (f g : IdFormula) → formula_of ts (form.Imp f g) ≡ tree_form.Imp (formula_of ts f) (formula_of ts g)
+  formula_of-imp f g = ap (formula_of ts) (sym (rolls-Imp f g)) ∙ of_roll ts (Imp f g) ∙ tree_form.rolls-Imp _ _

@@ -5,3 +5,4 @@ pub mod Tables
 pub mod Trees
 pub mod Truths
 pub mod Sameness
+pub mod Comparisons

@@ -1,6 +1,5 @@
 -- Terms and formulas with trees in place of their leaves.
-use Rattle.std.specs.Prelude.{◌≡◌, ℕ, ◌<◌, ℤ, ◌++◌, List, map, reverse, length, drop, slice_get, slice_index_or, Option, unwrap_or, option_and_then, IfSome}
-use Rattle.std.specs.List.{All}
+use Rattle.std.specs.Prelude.{◌≡◌, ℕ, ◌<◌, ℤ, pos, List, reverse, slice_get, slice_index_or, Option, unwrap_or, option_and_then, IfSome}
 use Rattle.std.specs.Option.{option_map, option_map_or}
 use Rattle.term_logic.specs.declared.term.Place.{Place}
 use Rattle.term_logic.specs.declared.term.Place.TheVariants.{Local, Stack, Global, Pages, Arg, Result}
@@ -15,17 +14,17 @@ use Rattle.term_logic.specs.declared.leaves.LeafIds.{LeafIds}
 use Rattle.term_logic.specs.Meaning.{Numbers, value}
 use Rattle.term_logic.specs.Table.{tree_at}
 
--- The trees that leaves are replaced by: the k-th of a list for the variable k, the k-th of another for the own
--- variable k, and one for each place that has one. Every other leaf stays.
+-- The trees that leaves are replaced by: one for each variable, own variable and place that has one. Every other leaf
+-- stays.
 pub record Leaves : Type 0 where
-  pub variables : List Term
-  pub own : List Term
+  pub variable : ℕ → Option Term
+  pub own : ℕ → Option Term
   pub place : Place → Option Term
 
 abbrev pub replaced_here : Leaves → Term-F Term → Term
 replaced_here l (Num n) = term.Num n
-replaced_here l (Var k) = slice_index_or l.variables k (term.Var k)
-replaced_here l (Own k) = slice_index_or l.own k (term.Own k)
+replaced_here l (Var k) = unwrap_or (l.variable k) (term.Var k)
+replaced_here l (Own k) = unwrap_or (l.own k) (term.Own k)
 replaced_here l (At p) = unwrap_or (l.place p) (term.At p)
 replaced_here l (Add a b) = term.Add a b
 replaced_here l (Sub a b) = term.Sub a b
@@ -55,13 +54,11 @@ replaced_formula_here l (layer.Imp f g) = formula.Imp f g
 abbrev pub replaced_formula : Leaves → Formula → Formula
 replaced_formula l f = fold-Formula Formula (replaced_formula_here l) f
 
--- The numbers that the leaves stand for once they are replaced: the values of the trees, and else those of before.
-abbrev pub numbers_of : Numbers → Leaves → Numbers
-numbers_of n l = record {
-  variables = map (value n) l.variables ++ drop (length l.variables) n.variables;
-  own = map (value n) l.own ++ drop (length l.own) n.own;
-  places = λ p. option_map_or (value n) (l.place p) (n.places p);
-}
+-- The numbers m give each leaf the value that what stands in its place has under the numbers n.
+pub record Stands (l : Leaves) (n m : Numbers) : Type 0 where
+  pub variables : (k : ℕ) → slice_index_or m.variables k (pos 0) ≡ option_map_or (value n) (l.variable k) (slice_index_or n.variables k (pos 0))
+  pub own : (k : ℕ) → slice_index_or m.own k (pos 0) ≡ option_map_or (value n) (l.own k) (slice_index_or n.own k (pos 0))
+  pub places : (p : Place) → m.places p ≡ option_map_or (value n) (l.place p) (n.places p)
 
 -- ---- leaves over a table
 
@@ -77,13 +74,13 @@ place_id l Result = l.result
 -- The trees of the positions.
 abbrev pub leaves_of : List Term → LeafIds → Leaves
 leaves_of ts l = record {
-  variables = map (tree_at ts) l.variables.now;
-  own = map (tree_at ts) l.own.now;
+  variable = λ k. option_map (tree_at ts) (slice_get l.variables.now k);
+  own = λ k. option_map (tree_at ts) (slice_get l.own.now k);
   place = λ p. option_map (tree_at ts) (place_id l p);
 }
 
 -- all positions are below n
 pub record LeavesWithin (n : ℕ) (l : LeafIds) : Type 0 where
-  pub variables : All (λ k. k < n) l.variables.now
-  pub own : All (λ k. k < n) l.own.now
-  pub places : (p : Place) → IfSome (place_id l p) (λ k. k < n)
+  pub variables : (k : ℕ) → IfSome (slice_get l.variables.now k) (λ id. id < n)
+  pub own : (k : ℕ) → IfSome (slice_get l.own.now k) (λ id. id < n)
+  pub places : (p : Place) → IfSome (place_id l p) (λ id. id < n)

@@ -1,4 +1,5 @@
-ghost use Rattle.std.specs.Prelude.{◌≡◌};
+ghost use Rattle.std.specs.Prelude.{◌≡◌, ◌<◌, length, ℕ, slice_get, IfSome};
+ghost use Rattle.std.specs.List.{All};
 ghost use Rattle.term_logic.specs.Leaves.{place_id};
 
 use crate::table::TermId;
@@ -18,29 +19,45 @@ pub struct LeafIds<'a> {
     pub result: Option<TermId>,
 }
 
-/// The position that is given for a place, where one is.
-pub fn place_id(leaves: &LeafIds<'_>, place: Place) -> Option<TermId>
-    ensures { result ≡ place_id leaves.now place }
-{
-    match place {
-        Place::Local(k) => match leaves.locals.get(k as usize) {
-            Some((_, id)) => Some(*id),
-            None => None,
-        },
-        Place::Stack(k) => {
-            let k = k as usize;
-            if k < leaves.stack.len() {
-                Some(leaves.stack[leaves.stack.len() - 1 - k].1)
-            } else {
-                None
+impl LeafIds<'_> {
+    /// The position that is given for a variable, where one is.
+    pub fn variable(&self, k: u32) -> Option<TermId>
+        ensures { result ≡ slice_get self.now.variables.now k }
+    {
+        self.variables.get(k as usize).copied()
+    }
+
+    /// The position that is given for an own variable, where one is.
+    pub fn own(&self, k: u32) -> Option<TermId>
+        ensures { result ≡ slice_get self.now.own.now k }
+    {
+        self.own.get(k as usize).copied()
+    }
+
+    /// The position that is given for a place, where one is.
+    pub fn place(&self, place: Place) -> Option<TermId>
+        ensures { result ≡ place_id self.now place }
+    {
+        match place {
+            Place::Local(k) => match self.locals.get(k as usize) {
+                Some((_, id)) => Some(*id),
+                None => None,
+            },
+            Place::Stack(k) => {
+                let k = k as usize;
+                if k < self.stack.len() {
+                    Some(self.stack[self.stack.len() - 1 - k].1)
+                } else {
+                    None
+                }
             }
+            Place::Global(k) => match self.globals.get(k as usize) {
+                Some(id) => *id,
+                None => None,
+            },
+            Place::Pages => self.pages,
+            Place::Arg(k) => self.args.get(k as usize).copied(),
+            Place::Result => self.result,
         }
-        Place::Global(k) => match leaves.globals.get(k as usize) {
-            Some(id) => *id,
-            None => None,
-        },
-        Place::Pages => leaves.pages,
-        Place::Arg(k) => leaves.args.get(k as usize).copied(),
-        Place::Result => leaves.result,
     }
 }

@@ -2,6 +2,7 @@
 #![tactic(auto)]
 
 mod boxed;
+mod compare;
 mod copy;
 mod count;
 mod formula;

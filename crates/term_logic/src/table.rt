@@ -68,6 +68,7 @@ impl TermTable {
     ghost use Rattle.term_logic.specs.Terms.{node_count, well_formed};
     ghost use Rattle.term_logic.specs.declared.term.Term.{Term, out-Term, map-Term};
     ghost use Rattle.term_logic.specs.Table.{cell_layer, cell_nodes, tree_at, tree_here, well_formed_cell, CellWithin};
+    ghost use Rattle.term_logic.specs.Same.{same};
     ghost use Rattle.term_logic.specs.Extends.{Extends};
 
     pub fn new(alloc: Global) -> TermTable
@@ -98,7 +99,8 @@ impl TermTable {
     pub fn same_tree(&self, a: TermId, b: TermId) -> bool
         requires first { a < length self.now }
         requires second { b < length self.now }
-        ensures { IsTrue result ↔ (tree_at self.now a ≡ tree_at self.now b) }
+        ensures same { IsTrue result ↔ (tree_at self.now a ≡ tree_at self.now b) }
+        ensures value { result ≡ same (tree_at self.now a) (tree_at self.now b) }
     {
         let _ = &self.cells;
         a == b
