@@ -57,4 +57,3 @@ module _ (ts : List Term) (f g : IdFormula) where
   test-imp a b is =
       ap (λ h. same_formula h (formula_of ts g)) (ap (formula_of ts) is ∙ formula_of-imp ts a b ∙ sym (tree.rolls-Imp _ _))
       ∙ ap (λ test. test (formula_of ts g)) (fold-roll-Formula (Formula → Bool) same_formula_here (layer.Imp (formula_of ts a) (formula_of ts b)))
-
