@@ -1,7 +1,7 @@
 -- A rotation joins two parts that share no binary digit, so that `|` adds them.
-use Rattle.std.proofs.Common.{◌≡◌, ℕ, ◌+◌, ◌-◌, ◌*◌, ◌/◌, ◌%◌, ◌^◌, ◌<◌, ◌≤◌, refl, sym, ap, ◌∙◌, arith, add-zero}
+use Rattle.std.proofs.Common.{◌≡◌, ℕ, ◌+◌, ◌-◌, ◌*◌, ◌/◌, ◌%◌, ◌^◌, ◌<◌, ◌≤◌, ap, ◌∙◌, arith, add-zero}
 use Rattle.std.specs.Int.Bits.{bit_or}
-use Rattle.std.proofs.lemmas.Nat.{pow_pos, mod-pow-add, or_shifted, or_comm, shr_below, shl-shr}
+use Rattle.std.proofs.lemmas.Nat.{mod-pow-add, or_shifted, or_comm, shr_below, shl-shr}
 use Rattle.std.proofs.Math.Nat.{mul-mod_left, add_comm}
 
 -- the low j digits, moved up by k, are all that j + k digits keep

@@ -1,38 +1,44 @@
 -- The signed reading of a number, and its range under division.
-use Rattle.std.proofs.Common.{◌≡◌, ℕ, zero, suc, ◌+◌, ◌-◌, ◌*◌, ◌/◌, ◌%◌, ◌^◌, ◌<◌, ◌≤◌, Bool, true, false, cond, ltb, eqb, ℤ, pos, negsuc, neg_ℤ, ◌≤ℤ◌, ◌<ℤ◌, int_div, int_rem, unsigned_abs, Option, Some, None, SFits, to_z, of_z, ◌&&◌, refl, sym, ap, ap₂, ◌∙◌, subst, ◌⊎◌, inl, inr, ⊎_elim, arith}
+use Rattle.std.proofs.Common.{◌≡◌, ℕ, zero, suc, ◌+◌, ◌-◌, ◌/◌, ◌^◌, ◌<◌, ◌≤◌, Bool, false, ltb, eqb, ℤ, pos, negsuc, neg_ℤ, ◌≤ℤ◌, ◌<ℤ◌, int_div, int_rem, unsigned_abs, Some, None, SFits, to_z, of_z, ◌&&◌, refl, sym, ap, ap₂, ◌∙◌, subst, ◌⊎◌, inl, inr, ⊎_elim, arith}
 use Rattle.std.specs.Int.{w64}
-use Rattle.std.proofs.lemmas.Int.{ints, fits_signed_from_abs, quot_is, to_z-of_z}
+use Rattle.std.proofs.lemmas.Int.{ints, quot_is, to_z-of_z}
 use Rattle.std.proofs.lemmas.Nat.{pow_pos}
 use Rattle.std.proofs.lemmas.Bool.{cases_lt, cases_eq, cond-true, cond-false, lt-ltb, le-ltb, eq-eqb, ne_eqb, and_from, both_ways}
 use Rattle.std.proofs.Math.Nat.{div-le_self, div-lt_self, mod-le, pow-suc}
-use Rattle.wasm_values.specs.Operators.{IsWidth, signed, unsigned, quotient, remainder}
+use Rattle.std.proofs.Math.Pow.{pow_mono}
+use Rattle.wasm_values.proofs.WidthLemmas.{width-positive}
+use Rattle.wasm_values.proofs.CountLemmas.{quotient-zero}
+use Rattle.wasm_values.specs.Operators.{IsWidth, signed, unsigned, quotient, remainder, sign_extended}
 
 -- half of the range, twice
-pub twice-half : (n : ℕ) → IsWidth n → 2 ^ n ≡ 2 ^ (n - 1) + 2 ^ (n - 1)
-twice-half n (inl e) = rw e refl
-twice-half n (inr e) = rw e refl
+pub twice-half : (n : ℕ) → 0 < n → 2 ^ n ≡ 2 ^ (n - 1) + 2 ^ (n - 1)
+twice-half n p =
+    let next : n ≡ suc (n - 1) = omega arith in
+    ap (λ k. 2 ^ k) next ∙ omega (arith, pow-suc 2 (n - 1))
 
 -- a number of the lower half reads as itself, and one of the upper half as less by the whole range
 pub signed-cases : (n a : ℕ) → a < 2 ^ n → ((a < 2 ^ (n - 1)) × (signed n a ≡ pos a)) ⊎ ((2 ^ (n - 1) ≤ a) × (signed n a ≡ negsuc (2 ^ n - a - 1)))
 signed-cases n a h =
     ⊎_elim (λ (l : a < 2 ^ (n - 1)). inl (l, cond-true (ltb a (2 ^ (n - 1))) _ _ (lt-ltb _ _ l)))
-      (λ (l : 2 ^ (n - 1) ≤ a). inr (l, cond-false (ltb a (2 ^ (n - 1))) _ _ (le-ltb _ _ l) ∙ omega (arith, ints)))
-      (cases_lt a (2 ^ (n - 1)))
+    (λ (l : 2 ^ (n - 1) ≤ a). inr (l, cond-false (ltb a (2 ^ (n - 1))) _ _ (le-ltb _ _ l) ∙ omega (arith, ints)))
+    (cases_lt a (2 ^ (n - 1)))
 
 -- the quotients and remainders of a dividend from -h up to h
-quotient-range : (h : ℕ) (x y : ℤ) → 0 < h → neg_ℤ (pos h) ≤ℤ x → x <ℤ pos h → (x ≡ neg_ℤ (pos h) → y ≡ negsuc 0 → ⊥)
+pub quotient-range : (h : ℕ) (x y : ℤ) → 0 < h → neg_ℤ (pos h) ≤ℤ x → x <ℤ pos h → (x ≡ neg_ℤ (pos h) → y ≡ negsuc 0 → ⊥)
     → (neg_ℤ (pos h) ≤ℤ int_div x y) × (int_div x y <ℤ pos h)
 quotient-range h (pos a) (pos b) p low high other = (omega (arith, ints), omega (arith, ints, div-le_self a b))
 quotient-range h (pos a) (negsuc b) p low high other = (omega (arith, ints, div-le_self a (suc b)), omega (arith, ints))
 quotient-range h (negsuc a) (pos b) p low high other = (omega (arith, ints, div-le_self (suc a) b), omega (arith, ints))
-quotient-range h (negsuc a) (negsuc zero) p low high other =
-    (omega (arith, ints), ⊎_elim (λ (e : suc a ≡ h). absurd (other (subst (λ k. negsuc a ≡ neg_ℤ (pos k)) e refl) refl))
-    (λ (ne : suc a ≡ h → ⊥). omega (arith, ints)) (cases_eq (suc a) h))
+quotient-range h (negsuc a) (negsuc zero) p low high other = (
+  omega (arith, ints),
+  ⊎_elim (λ (e : suc a ≡ h). absurd (other (subst (λ k. negsuc a ≡ neg_ℤ (pos k)) e refl) refl))
+      (λ (ne : suc a ≡ h → ⊥). omega (arith, ints)) (cases_eq (suc a) h),
+)
 quotient-range h (negsuc a) (negsuc (suc b)) p low high other =
     let less : suc a / suc (suc b) < suc a = div-lt_self (omega arith) (omega arith) in
     (omega (arith, ints), omega (arith, ints))
 
-remainder-range : (h : ℕ) (x y : ℤ) → 0 < h → neg_ℤ (pos h) ≤ℤ x → x <ℤ pos h
+pub remainder-range : (h : ℕ) (x y : ℤ) → 0 < h → neg_ℤ (pos h) ≤ℤ x → x <ℤ pos h
     → (neg_ℤ (pos h) ≤ℤ int_rem x y) × (int_rem x y <ℤ pos h)
 remainder-range h (pos a) y p low high = (omega (arith, ints), omega (arith, ints, mod-le a (unsigned_abs y)))
 remainder-range h (negsuc a) y p low high = (omega (arith, ints, mod-le (suc a) (unsigned_abs y)), omega (arith, ints))
@@ -59,24 +65,24 @@ reads-fits : (n a : ℕ) (x : ℤ) → IsWidth n → Reads n a x → SFits w64 x
 reads-fits n a x w r = fits (2 ^ (n - 1)) x (half-within n w) r.low r.high
 
 -- the least reading, and -1
-least-from : (n a : ℕ) → IsWidth n → a < 2 ^ n → signed n a ≡ neg_ℤ (pos (2 ^ (n - 1))) → a ≡ 2 ^ (n - 1)
+pub least-from : (n a : ℕ) → IsWidth n → a < 2 ^ n → signed n a ≡ neg_ℤ (pos (2 ^ (n - 1))) → a ≡ 2 ^ (n - 1)
 least-from n a w h e =
     ⊎_elim (λ (l : (a < 2 ^ (n - 1)) × (signed n a ≡ pos a)). let same : pos a ≡ neg_ℤ (pos (2 ^ (n - 1))) = sym l.1 ∙ e in omega (arith, ints, pow_pos (n - 1)))
-      (λ (l : (2 ^ (n - 1) ≤ a) × (signed n a ≡ negsuc (2 ^ n - a - 1))). let same : negsuc (2 ^ n - a - 1) ≡ neg_ℤ (pos (2 ^ (n - 1))) = sym l.1 ∙ e in omega (arith, ints, twice-half n w))
-      (signed-cases n a h)
+    (λ (l : (2 ^ (n - 1) ≤ a) × (signed n a ≡ negsuc (2 ^ n - a - 1))). let same : negsuc (2 ^ n - a - 1) ≡ neg_ℤ (pos (2 ^ (n - 1))) = sym l.1 ∙ e in omega (arith, ints, twice-half n (width-positive n w)))
+    (signed-cases n a h)
 
-minus_one-from : (n b : ℕ) → b < 2 ^ n → signed n b ≡ negsuc 0 → b ≡ 2 ^ n - 1
+pub minus_one-from : (n b : ℕ) → b < 2 ^ n → signed n b ≡ negsuc 0 → b ≡ 2 ^ n - 1
 minus_one-from n b h e =
     ⊎_elim (λ (l : (b < 2 ^ (n - 1)) × (signed n b ≡ pos b)). let same : pos b ≡ negsuc 0 = sym l.1 ∙ e in omega (arith, ints))
-      (λ (l : (2 ^ (n - 1) ≤ b) × (signed n b ≡ negsuc (2 ^ n - b - 1))). let same : negsuc (2 ^ n - b - 1) ≡ negsuc 0 = sym l.1 ∙ e in omega (arith, ints))
-      (signed-cases n b h)
+    (λ (l : (2 ^ (n - 1) ≤ b) × (signed n b ≡ negsuc (2 ^ n - b - 1))). let same : negsuc (2 ^ n - b - 1) ≡ negsuc 0 = sym l.1 ∙ e in omega (arith, ints))
+    (signed-cases n b h)
 
 abbrev pub overflow : ℕ → ℕ → ℕ → Bool
 overflow n a b = eqb a (2 ^ (n - 1)) && eqb b (2 ^ n - 1)
 
-no-overflow : (n a b : ℕ) (x y : ℤ) → IsWidth n → Reads n a x → Reads n b y → overflow n a b ≡ false → x ≡ neg_ℤ (pos (2 ^ (n - 1))) → y ≡ negsuc 0 → ⊥
-no-overflow n a b x y w r s held e f =
-    both_ways (overflow n a b) held (and_from _ _ (eq-eqb _ _ (least-from n a w r.below (sym r.value ∙ e))) (eq-eqb _ _ (minus_one-from n b s.below (sym s.value ∙ f))))
+pub no-overflow : (n a b : ℕ) → IsWidth n → a < 2 ^ n → b < 2 ^ n → overflow n a b ≡ false → signed n a ≡ neg_ℤ (pos (2 ^ (n - 1))) → signed n b ≡ negsuc 0 → ⊥
+no-overflow n a b w ha hb held e f =
+    both_ways (overflow n a b) held (and_from _ _ (eq-eqb _ _ (least-from n a w ha e)) (eq-eqb _ _ (minus_one-from n b hb f)))
 
 -- the quotient that the code makes
 abbrev pub as_divided : ℤ → ℤ → ℤ
@@ -84,7 +90,7 @@ as_divided x y = to_z w64 (of_z w64 (int_div (to_z w64 (of_z w64 x)) (to_z w64 (
 
 module _ (n a b : ℕ) (x y : ℤ) (w : IsWidth n) (r : Reads n a x) (s : Reads n b y) (held : overflow n a b ≡ false) where
   range : (neg_ℤ (pos (2 ^ (n - 1))) ≤ℤ int_div x y) × (int_div x y <ℤ pos (2 ^ (n - 1)))
-  range = quotient-range (2 ^ (n - 1)) x y (pow_pos (n - 1)) r.low r.high (no-overflow n a b x y w r s held)
+  range = quotient-range (2 ^ (n - 1)) x y (pow_pos (n - 1)) r.low r.high (λ e f. no-overflow n a b w r.below s.below held (sym r.value ∙ e) (sym s.value ∙ f))
 
   divided-is : as_divided x y ≡ int_div x y
   divided-is = quot_is w64 x y (reads-fits n a x w r) (reads-fits n b y w s) (fits (2 ^ (n - 1)) (int_div x y) (half-within n w) range.0 range.1)
@@ -117,3 +123,15 @@ module _ (n a b : ℕ) (x y z : ℤ) (w : IsWidth n) (r : Reads n a x) (s : Read
   pub remainder-is : (v : ℕ) → (b ≡ 0 → ⊥) → v ≡ unsigned n (to_z w64 (of_z w64 z)) → Some v ≡ remainder n a b
   remainder-is v nonzero h =
       ap Some (h ∙ ap (unsigned n) (rest-is ∙ ap₂ int_rem r.value s.value)) ∙ sym (cond-false (eqb b 0) None _ (ne_eqb b 0 nonzero))
+
+-- ---- sign extension
+
+-- a number whose highest digit is set gains the digits above it
+pub sign_extended-high : (from to a r : ℕ) → 0 < from → from ≤ to → a < 2 ^ from → (a / 2 ^ (from - 1) ≡ 0 → ⊥) → r ≡ a + (2 ^ to - 1 - (2 ^ from - 1)) → r ≡ sign_extended from to a
+sign_extended-high from to a r p l h set e =
+    let longer : 2 ^ from ≤ 2 ^ to = pow_mono l in
+    ⊎_elim (λ (small : (a < 2 ^ (from - 1)) × (signed from a ≡ pos a)). absurd (set (quotient-zero a (from - 1) small.0)))
+    (λ (large : (2 ^ (from - 1) ≤ a) × (signed from a ≡ negsuc (2 ^ from - a - 1))).
+    let goal : r ≡ 2 ^ to - (2 ^ from - a - 1 + 1) = omega arith in
+    goal ∙ sym (ap (unsigned to) large.1))
+    (signed-cases from a h)

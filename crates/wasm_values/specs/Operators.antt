@@ -1,6 +1,6 @@
 -- What the integer operators of WebAssembly give, in whole numbers (WebAssembly Core Specification 1.0, section 4.3.2).
 -- A value of n bits is a whole number from 0 to 2 ^ n - 1. The definitions are total: at greater numbers they say nothing of the standard.
-use Rattle.std.specs.Prelude.{◌≡◌, ℕ, zero, suc, ◌+◌, ◌-◌, ◌*◌, ◌/◌, ◌%◌, ◌^◌, Bool, true, false, ◌&&◌, if◌then◌else◌, ◌==◌, nat_lt, nat_le, ◌⊎◌, ℤ, pos, negsuc, ◌-ℤ◌, int_lt, int_le, int_div, int_rem, bit_and, bit_or, bit_xor, Option, Some, None, List, [], ◌∷◌}
+use Rattle.std.specs.Prelude.{◌≡◌, ℕ, zero, suc, ◌+◌, ◌-◌, ◌*◌, ◌/◌, ◌%◌, ◌^◌, Bool, true, false, ◌&&◌, if◌then◌else◌, ◌==◌, nat_lt, nat_le, ◌⊎◌, ℤ, pos, negsuc, neg_ℤ, ◌-ℤ◌, int_lt, int_le, int_div, int_rem, bit_and, bit_or, bit_xor, Option, Some, None, List, [], ◌∷◌}
 use Rattle.std.specs.Int.{int_shr}
 use Rattle.wasm_values.specs.declared.number.IntOp.{IntOp}
 use Rattle.wasm_values.specs.declared.number.IntOp.TheVariants.{Eqz, Eq, Ne, LtS, LtU, GtS, GtU, LeS, LeU, GeS, GeU, Clz, Ctz, Popcnt, Add, Sub, Mul, DivS, DivU, RemS, RemU, And, Or, Xor, Shl, ShrS, ShrU, Rotl, Rotr}
@@ -110,6 +110,14 @@ binary n ShrU a b = Some (a / 2 ^ (b % n))
 binary n Rotl a b = Some ((a * 2 ^ (b % n)) % 2 ^ n + a / 2 ^ (n - b % n))
 binary n Rotr a b = Some (a / 2 ^ (b % n) + (a * 2 ^ (n - b % n)) % 2 ^ n)
 binary n _ a b = None
+
+-- Where an operator of two operands is undefined: a quotient or remainder by 0, and the signed quotient of -2 ^ (n - 1) by -1 (4.3.2).
+abbrev pub IsUndefined : ℕ → IntOp → ℕ → ℕ → Type 0
+IsUndefined n DivS a b = (b ≡ 0) ⊎ ((signed n a ≡ neg_ℤ (pos (2 ^ (n - 1)))) × (signed n b ≡ neg_ℤ (pos 1)))
+IsUndefined n DivU a b = b ≡ 0
+IsUndefined n RemS a b = b ≡ 0
+IsUndefined n RemU a b = b ≡ 0
+IsUndefined n _ a b = ⊥
 
 -- ---- sign extension and bytes
 

@@ -24,6 +24,7 @@ impl<T> Model for List<T> {
 }
 
 impl<T> List<T> {
+    /// An empty list, which takes no memory.
     pub fn new(alloc: Global) -> List<T>
         ensures { result ≡ [] }
     {
@@ -32,12 +33,14 @@ impl<T> List<T> {
         }
     }
 
+    /// The list of a vector's items, with the vector's allocator.
     pub fn from_vec(items: Vec<T>) -> List<T>
         ensures { result ≡ items.items }
     {
         List { items }
     }
 
+    /// The items as a vector, with the list's allocator.
     pub fn into_vec(self) -> Vec<T>
         ensures { result.items ≡ self }
     {
@@ -45,19 +48,21 @@ impl<T> List<T> {
         items
     }
 
+    /// The items, lent.
     pub fn as_slice(&self) -> &[T]
         ensures { result.now ≡ self.now }
     {
         self.items.as_slice()
     }
 
+    /// How many items there are.
     pub fn len(&self) -> usize
         ensures { result ≡ length self.now }
     {
         self.items.len()
     }
 
-    /// `None` comes exactly where the list is empty.
+    /// Takes the last item off. `None` comes exactly where the list is empty.
     pub fn pop(&mut self) -> Option<T>
         ensures { MatchOption result ((self.old ≡ []) × (self.new ≡ [])) (λ last. self.old ≡ self.new ++ last ∷ []) }
     {
@@ -66,7 +71,7 @@ impl<T> List<T> {
 }
 
 impl<T: Drop> List<T> {
-    /// After a refusal the item is dropped.
+    /// Adds an item at the end. After a refusal the item is dropped.
     pub fn push(&mut self, item: T) -> Result<(), OutOfMemory>
         ensures ok { OnOk result (self.new ≡ self.old ++ item ∷ []) }
         ensures err { OnErr result (self.new ≡ self.old) }
@@ -77,6 +82,7 @@ impl<T: Drop> List<T> {
         }
     }
 
+    /// Puts an item in the place of the one at `i`, which is dropped.
     pub fn set(&mut self, i: usize, item: T)
         requires { i < length self.old }
         ensures { self.new ≡ slice_set self.old i item }
@@ -93,7 +99,7 @@ impl<T: Drop> List<T> {
 }
 
 impl<T: Duplicate> List<T> {
-    /// A list that equals this one.
+    /// A list that equals this one, of its own memory.
     pub fn copy(&self, alloc: Global) -> Result<List<T>, OutOfMemory>
         ensures { IfOk result (λ copied. copied ≡ self.now) }
     {

@@ -1,10 +1,9 @@
-ghost use Rattle.std.specs.Prelude.{◌≡◌, ◌==◌, ◌&&◌, ◌+◌, ◌-◌, ◌*◌, ◌/◌, ◌%◌, ◌^◌, ◌<◌, int_le, neg_ℤ, pos, ◌<ℤ◌, ◌≤ℤ◌};
+ghost use Rattle.std.specs.Prelude.{◌≡◌, ◌==◌, ◌&&◌, ◌+◌, ◌-◌, ◌*◌, ◌/◌, ◌%◌, ◌^◌, ◌<◌, neg_ℤ, pos, ◌<ℤ◌, ◌≤ℤ◌};
 ghost use Rattle.wasm_values.specs.Operators.{IsWidth, operands, unary, binary, signed, unsigned, leading_zeros_of, trailing_zeros_of, ones_of, quotient, remainder};
 
 use crate::number::IntOp;
 
 /// Integers of `BITS` bits, held as numbers below 2 to the power of `BITS`.
-#[derive(Clone, Copy, Debug)]
 pub struct Width<const BITS: u32>;
 
 impl<const BITS: u32> Width<BITS> {
@@ -63,6 +62,7 @@ impl<const BITS: u32> Width<BITS> {
         }
     }
 
+    /// The digits from `BITS` to 63 are zeros that std counts too.
     fn leading_zeros(a: u64) -> u64
         requires width { IsWidth BITS }
         requires operand { a < 2 ^ BITS }
