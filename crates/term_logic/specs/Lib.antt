@@ -1,5 +1,6 @@
 pub mod Extends
 pub mod Formulas
+pub mod Ground
 pub mod Leaves
 pub mod Meaning
 pub mod Same

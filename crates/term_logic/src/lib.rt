@@ -9,6 +9,7 @@ mod formula;
 mod formula_view;
 mod leaves;
 mod put;
+mod reduce;
 mod replace;
 mod same;
 mod table;
