@@ -6,3 +6,5 @@ pub mod Trees
 pub mod Truths
 pub mod Sameness
 pub mod Comparisons
+pub mod Subterms
+pub mod Grounded

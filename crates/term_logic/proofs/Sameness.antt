@@ -49,7 +49,7 @@ here-test (Low k a) u = refl
 here-test (Sext k n a) u = refl
 here-test (Sgn n a) u = refl
 
-map_map : {X Y Z : Type 0} (g : X → Y) (h : Y → Z) (l : Term-F X) → map-Term Y Z h (map-Term X Y g l) ≡ map-Term X Z (λ x. h (g x)) l
+pub map_map : {X Y Z : Type 0} (g : X → Y) (h : Y → Z) (l : Term-F X) → map-Term Y Z h (map-Term X Y g l) ≡ map-Term X Z (λ x. h (g x)) l
 map_map g h (Num n) = refl
 map_map g h (Var k) = refl
 map_map g h (Own k) = refl

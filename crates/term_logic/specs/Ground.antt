@@ -26,6 +26,15 @@ names_nothing t = names_nothing_here (out-Term t)
 abbrev pub is_small : ℤ → Bool
 is_small z = nat_lt (unsigned_abs z) (2 ^ 120)
 
+-- the number, where its absolute value is below 2 ^ 120
+abbrev pub bounded : ℤ → Option ℤ
+bounded z = if is_small z then Some z else None
+
+-- both values, where there are both
+abbrev pub both : {X : Type 0} → Option X → Option X → Option (X × X)
+both (Some a) (Some b) = Some (a, b)
+both _ _ = None
+
 -- Whether a subterm may stand in a ground formula: it names nothing, and its value is below 2 ^ 120 in absolute value.
 abbrev pub is_ground : Term → Bool
 is_ground t = names_nothing t && is_small (value no_numbers t)

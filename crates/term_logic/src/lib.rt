@@ -7,6 +7,7 @@ mod copy;
 mod count;
 mod formula;
 mod formula_view;
+mod ground;
 mod leaves;
 mod put;
 mod reduce;
