@@ -8,3 +8,4 @@ pub mod Sameness
 pub mod Comparisons
 pub mod Subterms
 pub mod Grounded
+pub mod GroundTruth

@@ -5,9 +5,9 @@ mod boxed;
 mod compare;
 mod copy;
 mod count;
+mod evaluate;
 mod formula;
 mod formula_view;
-mod ground;
 mod leaves;
 mod put;
 mod reduce;
@@ -20,6 +20,7 @@ mod view;
 
 pub use boxed::Boxed;
 pub use count::nodes;
+pub use evaluate::ground;
 pub use formula::IdFormula;
 pub use leaves::LeafIds;
 pub use same::same_term;

@@ -2,7 +2,7 @@ use Rattle.std.proofs.Common.{rules}
 use Rattle.std.proofs.lemmas.Int.{to_z-of_z}
 use mir.Syntax.{w128}
 use Rattle.term_logic.proofs.Grounded.{ground-sgn_at, ground-two_at, stored}
-use Rattle.term_logic.proofs.ground.+ground.Goals as goal
+use Rattle.term_logic.proofs.evaluate.+ground.Goals as goal
 
 pub ground_value-returns-in_ok-a-in-Two-clause-value : goal.ground_value-returns-in_ok-a-in-Two-clause-value
 ground_value-returns-in_ok-a-in-Two-clause-value t c =

@@ -1,9 +1,10 @@
 ghost use Rattle.std.specs.Prelude.{◌≡◌, ◌^◌, ◌<◌, ◌+ℤ◌, ◌-ℤ◌, ◌*ℤ◌, ◌&&◌, unsigned_abs, IfSome, IsTrue};
 ghost use Rattle.term_logic.specs.Terms.{well_formed};
-ghost use Rattle.term_logic.specs.Ground.{bounded, both, ground_value};
+ghost use Rattle.term_logic.specs.Formulas.{well_formed_formula};
+ghost use Rattle.term_logic.specs.Ground.{bounded, both, ground_value, ground_truth};
 
 use crate::reduce::{low_value, one_value, sext_value, sgn_value, two_value};
-use crate::term::Term;
+use crate::term::{Formula, Term};
 
 /// The greatest absolute value that a subterm may have, and one.
 const END: i128 = 1 << 120;
@@ -101,6 +102,57 @@ fn ground_value(t: &Term) -> Option<i128>
         Term::Sgn(n, a) => {
             let a = ground_value(a.get())?;
             bounded(sgn_value(*n, a))
+        }
+    }
+}
+
+#[cycle(truth)]
+fn two_truths(f: &Formula, g: &Formula) -> Option<(bool, bool)>
+    requires { IsTrue (well_formed_formula f.now && well_formed_formula g.now) }
+    ensures { result ≡ both (ground_truth f.now) (ground_truth g.now) }
+{
+    let f = ground(f)?;
+    let g = ground(g)?;
+    Some((f, g))
+}
+
+/// The truth of a formula without variables and places, where all subterms are small.
+#[cycle(truth)]
+#[tactic(auto, using(crate::proofs::GroundTruth::truth_forms))]
+pub fn ground(f: &Formula) -> Option<bool>
+    requires { IsTrue (well_formed_formula f.now) }
+    ensures { result ≡ ground_truth f.now }
+{
+    match f {
+        Formula::True => Some(true),
+        Formula::False => Some(false),
+        Formula::Eq(a, b) => {
+            let (a, b) = two_values(a, b)?;
+            Some(a == b)
+        }
+        Formula::Le(a, b) => {
+            let (a, b) = two_values(a, b)?;
+            Some(a <= b)
+        }
+        Formula::Lt(a, b) => {
+            let (a, b) = two_values(a, b)?;
+            Some(a < b)
+        }
+        Formula::Not(f) => {
+            let holds = ground(f.get())?;
+            Some(!holds)
+        }
+        Formula::And(f, g) => {
+            let (f, g) = two_truths(f.get(), g.get())?;
+            Some(f && g)
+        }
+        Formula::Or(f, g) => {
+            let (f, g) = two_truths(f.get(), g.get())?;
+            Some(f || g)
+        }
+        Formula::Imp(f, g) => {
+            let (f, g) = two_truths(f.get(), g.get())?;
+            Some(!f || g)
         }
     }
 }
