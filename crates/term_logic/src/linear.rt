@@ -1,0 +1,138 @@
+ghost use Rattle.std.specs.Prelude.{◌≡◌, ◌∷◌, ◌++◌, [], pos, IfOk, option_and_then};
+ghost use Rattle.std.specs.Option.{option_map};
+ghost use Rattle.term_logic.specs.Normal.{is_low};
+ghost use Rattle.term_logic.specs.Linear.{shown, shown_form, coefficient_in, occurs_in, applied, limited, limited_parts, kept_parts, fresh_parts, joined, joined_product, is_constant_parts, linear_parts};
+ghost use Rattle.term_logic.specs.Ground.{both};
+
+use crate::same::same_term;
+use crate::term::Term;
+use std::alloc::Global;
+use wasm_values::OutOfMemory;
+
+/// How two linear forms are taken together.
+#[derive(Clone, Copy)]
+pub(crate) enum Way {
+    Sum,
+    Difference,
+    /// The second form times this number.
+    Times(i128),
+    /// The first form by this number.
+    By(i128),
+}
+
+/// A linear form, each of its terms in one part.
+#[derive(Drop)]
+pub(crate) struct Linear<'a> {
+    pub(crate) constant: i128,
+    pub(crate) parts: Vec<(&'a Term, i128)>,
+}
+
+/// The end of the absolute values of constants and coefficients.
+const END: i128 = 1 << 96;
+
+fn is_low(value: i128) -> bool
+    ensures { result ≡ is_low value }
+{
+    -END < value && value < END
+}
+
+fn limited(value: Option<i128>) -> Option<i128>
+    ensures { result ≡ option_and_then limited value }
+{
+    match value {
+        Some(value) => { if is_low(value) { Some(value) } else { None } }
+        None => None,
+    }
+}
+
+/// What two numbers are taken to, where it is low.
+fn applied(way: Way, x: i128, y: i128) -> Option<i128>
+    ensures { result ≡ limited (applied way x y) }
+{
+    match way {
+        Way::Sum => limited(x.checked_add(y)),
+        Way::Difference => limited(x.checked_sub(y)),
+        Way::Times(c) => limited(c.checked_mul(y)),
+        Way::By(c) => limited(x.checked_mul(c)),
+    }
+}
+
+/// The coefficient of a term among some parts: 0 where it is none of them.
+fn coefficient_in(parts: &[(&Term, i128)], t: &Term) -> i128
+    ensures { result ≡ coefficient_in (shown parts.now) t.now }
+{
+    for (atom, coefficient) in parts {
+        if same_term(atom, t) {
+            return *coefficient;
+        }
+    }
+    0
+}
+
+/// Whether a term is one of the parts.
+fn occurs_in(parts: &[(&Term, i128)], t: &Term) -> bool
+    ensures { result ≡ occurs_in (shown parts.now) t.now }
+{
+    for (atom, _) in parts {
+        if same_term(atom, t) {
+            return true;
+        }
+    }
+    false
+}
+
+/// Whether no part has a coefficient other than 0.
+fn is_constant(parts: &[(&Term, i128)]) -> bool
+    ensures { result ≡ is_constant_parts (shown parts.now) }
+{
+    for (_, coefficient) in parts {
+        if *coefficient != 0 {
+            return false;
+        }
+    }
+    true
+}
+
+/// The first parts, each taken together with what the second have of its term.
+fn kept_parts<'a>(
+    alloc: Global,
+    way: Way,
+    first: &[(&'a Term, i128)],
+    second: &[(&'a Term, i128)],
+) -> Result<Option<Vec<(&'a Term, i128)>>, OutOfMemory>
+    ensures { IfOk result (λ o. option_map (λ v. shown v.items) o ≡ limited_parts (kept_parts way (shown first.now) (shown second.now))) }
+{
+    let mut parts = Vec::new(alloc);
+    for (atom, coefficient) in first {
+        let Some(sum) = applied(way, *coefficient, coefficient_in(second, atom)) else {
+            return Ok(None);
+        };
+        let Ok(()) = parts.push((*atom, sum)) else {
+            return Err(OutOfMemory);
+        };
+    }
+    Ok(Some(parts))
+}
+
+/// The second parts whose terms are none of the first.
+fn fresh_parts<'a>(
+    alloc: Global,
+    way: Way,
+    first: &[(&'a Term, i128)],
+    second: &[(&'a Term, i128)],
+) -> Result<Option<Vec<(&'a Term, i128)>>, OutOfMemory>
+    ensures { IfOk result (λ o. option_map (λ v. shown v.items) o ≡ limited_parts (fresh_parts way (shown first.now) (shown second.now))) }
+{
+    let mut parts = Vec::new(alloc);
+    for (atom, coefficient) in second {
+        if !occurs_in(first, atom) {
+            let Some(sum) = applied(way, 0, *coefficient) else {
+                return Ok(None);
+            };
+            let Ok(()) = parts.push((*atom, sum)) else {
+                return Err(OutOfMemory);
+            };
+        }
+    }
+    Ok(Some(parts))
+}
