@@ -9,3 +9,4 @@ pub mod Comparisons
 pub mod Subterms
 pub mod Grounded
 pub mod GroundTruth
+pub mod LinearLists

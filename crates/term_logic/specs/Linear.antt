@@ -58,9 +58,8 @@ fresh_parts w ps qs = map (λ q. (q.0, applied w (pos 0) q.1)) (filter (λ q. no
 -- both taken together, where all is low
 abbrev pub joined : Way → Parts → Parts → Option Parts
 joined w f g =
-    if is_low (applied w f.0 g.0)
-    then option_map (λ ps. (applied w f.0 g.0, ps)) (limited_parts (kept_parts w f.1 g.1 ++ fresh_parts w f.1 g.1))
-    else None
+    option_and_then (λ c. option_and_then (λ ps. option_map (λ qs. (c, ps ++ qs)) (limited_parts (fresh_parts w f.1 g.1)))
+    (limited_parts (kept_parts w f.1 g.1))) (limited (applied w f.0 g.0))
 
 -- whether no part has a coefficient other than 0
 abbrev pub is_constant_parts : List (Term × ℤ) → Bool

@@ -136,3 +136,70 @@ fn fresh_parts<'a>(
     }
     Ok(Some(parts))
 }
+
+/// The form of a term that is an atom.
+fn single<'a>(alloc: Global, t: &'a Term) -> Result<Linear<'a>, OutOfMemory>
+    ensures { IfOk result (λ l. shown_form l ≡ (pos 0, (t.now, pos 1) ∷ [])) }
+{
+    let mut parts = Vec::new(alloc);
+    let Ok(()) = parts.push((t, 1)) else {
+        return Err(OutOfMemory);
+    };
+    Ok(Linear { constant: 0, parts })
+}
+
+/// The first parts and then the second.
+fn followed<'a>(
+    mut first: Vec<(&'a Term, i128)>,
+    second: &[(&'a Term, i128)],
+) -> Result<Vec<(&'a Term, i128)>, OutOfMemory>
+    ensures { IfOk result (λ v. shown v.items ≡ shown first.entry.items ++ shown second.now) }
+{
+    let Ok(()) = first.extend_from_slice(second) else {
+        return Err(OutOfMemory);
+    };
+    Ok(first)
+}
+
+/// Two forms taken together, where the constant and all coefficients are low.
+fn joined<'a>(
+    alloc: Global,
+    way: Way,
+    first: &Linear<'a>,
+    second: &Linear<'a>,
+) -> Result<Option<Linear<'a>>, OutOfMemory>
+    ensures { IfOk result (λ o. option_map shown_form o ≡ joined way (shown_form first.now) (shown_form second.now)) }
+{
+    let Some(constant) = applied(way, first.constant, second.constant) else {
+        return Ok(None);
+    };
+    let Some(parts) = kept_parts(alloc, way, &first.parts, &second.parts)? else {
+        return Ok(None);
+    };
+    let Some(fresh) = fresh_parts(alloc, way, &first.parts, &second.parts)? else {
+        return Ok(None);
+    };
+    let parts = followed(parts, &fresh)?;
+    Ok(Some(Linear { constant, parts }))
+}
+
+/// The form of the product `t` of two terms with these forms.
+fn product<'a>(
+    alloc: Global,
+    t: &'a Term,
+    first: &Linear<'a>,
+    second: &Linear<'a>,
+) -> Result<Option<Linear<'a>>, OutOfMemory>
+    ensures { IfOk result (λ o. option_map shown_form o ≡ joined_product t.now (shown_form first.now) (shown_form second.now)) }
+{
+    if is_constant(&first.parts) {
+        joined(alloc, Way::Times(first.constant), first, second)
+    } else if is_constant(&second.parts) {
+        joined(alloc, Way::By(second.constant), first, second)
+    } else {
+        match single(alloc, t) {
+            Ok(form) => Ok(Some(form)),
+            Err(error) => Err(error),
+        }
+    }
+}
