@@ -10,3 +10,5 @@ pub mod Subterms
 pub mod Grounded
 pub mod GroundTruth
 pub mod LinearLists
+pub mod AtomLists
+pub mod LinearForms
