@@ -12,3 +12,4 @@ pub mod GroundTruth
 pub mod LinearLists
 pub mod AtomLists
 pub mod LinearForms
+pub mod NormalForms

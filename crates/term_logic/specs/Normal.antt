@@ -4,7 +4,7 @@ use Rattle.std.specs.List.{list_all}
 use Rattle.std.specs.Ordering.{int_eq}
 use Rattle.term_logic.specs.declared.term.Term.{Term, fold-Term, roll-Term, map-Term}
 use Rattle.term_logic.specs.declared.term.Term.TheOpen.{Term-F, Num, Add, Sub, Mul}
-use Rattle.term_logic.specs.declared.normal.Normal.{Normal}
+use Rattle.term_logic.specs.declared.forms.Normal.{Normal}
 use Rattle.term_logic.specs.Same.{same}
 use Rattle.term_logic.specs.Meaning.{Numbers, value}
 

@@ -148,6 +148,30 @@ fn single<'a>(alloc: Global, t: &'a Term) -> Result<Linear<'a>, OutOfMemory>
     Ok(Linear { constant: 0, parts })
 }
 
+/// The form of a term that is an atom, which always fits.
+fn atom<'a>(alloc: Global, t: &'a Term) -> Result<Option<Linear<'a>>, OutOfMemory>
+    ensures { IfOk result (λ o. option_map shown_form o ≡ Some (pos 0, (t.now, pos 1) ∷ [])) }
+{
+    match single(alloc, t) {
+        Ok(form) => Ok(Some(form)),
+        Err(error) => Err(error),
+    }
+}
+
+/// The form of a number.
+fn number<'a>(alloc: Global, n: i128) -> Result<Option<Linear<'a>>, OutOfMemory>
+    ensures { IfOk result (λ o. option_map shown_form o ≡ option_map (λ c. (c, [])) (limited n)) }
+{
+    if is_low(n) {
+        Ok(Some(Linear {
+            constant: n,
+            parts: Vec::new(alloc),
+        }))
+    } else {
+        Ok(None)
+    }
+}
+
 /// The first parts and then the second.
 fn followed<'a>(
     mut first: Vec<(&'a Term, i128)>,
@@ -197,9 +221,49 @@ fn product<'a>(
     } else if is_constant(&second.parts) {
         joined(alloc, Way::By(second.constant), first, second)
     } else {
-        match single(alloc, t) {
-            Ok(form) => Ok(Some(form)),
-            Err(error) => Err(error),
-        }
+        atom(alloc, t)
+    }
+}
+
+#[cycle(forms)]
+fn two_forms<'a>(
+    alloc: Global,
+    a: &'a Term,
+    b: &'a Term,
+) -> Result<Option<(Linear<'a>, Linear<'a>)>, OutOfMemory>
+    ensures { IfOk result (λ o. option_map (λ p. (shown_form p.0, shown_form p.1)) o ≡ both (linear_parts a.now) (linear_parts b.now)) }
+{
+    let Some(first) = form_of(alloc, a)? else {
+        return Ok(None);
+    };
+    let Some(second) = form_of(alloc, b)? else {
+        return Ok(None);
+    };
+    Ok(Some((first, second)))
+}
+
+/// The linear form of a term, where the forms of all terms on the way fit.
+#[cycle(forms)]
+#[tactic(auto, using(crate::proofs::LinearForms::linear_forms))]
+pub(crate) fn form_of<'a>(alloc: Global, t: &'a Term) -> Result<Option<Linear<'a>>, OutOfMemory>
+    ensures { IfOk result (λ o. option_map shown_form o ≡ linear_parts t.now) }
+{
+    match t {
+        Term::Num(n) => number(alloc, *n),
+        Term::Add(a, b) => match two_forms(alloc, a.get(), b.get())? {
+            Some((first, second)) => joined(alloc, Way::Sum, &first, &second),
+            None => Ok(None),
+        },
+        Term::Sub(a, b) => match two_forms(alloc, a.get(), b.get())? {
+            Some((first, second)) => joined(alloc, Way::Difference, &first, &second),
+            None => Ok(None),
+        },
+        Term::Mul(a, b) => match two_forms(alloc, a.get(), b.get())? {
+            Some((first, second)) => product(alloc, t, &first, &second),
+            None => Ok(None),
+        },
+        Term::Var(_) | Term::Own(_) | Term::At(_) => atom(alloc, t),
+        Term::One(_, _) | Term::Two(_, _, _) => atom(alloc, t),
+        Term::Low(_, _) | Term::Sext(_, _, _) | Term::Sgn(_, _) => atom(alloc, t),
     }
 }

@@ -1,6 +1,5 @@
 use crate::term::Term;
-use std::alloc::Global;
-use wasm_values::{List, OutOfMemory};
+use wasm_values::List;
 
 /// A linear normal form: the sum of the constant and of the atoms, each times its coefficient.
 ///
