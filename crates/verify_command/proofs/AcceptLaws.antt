@@ -7,10 +7,7 @@ use Rattle.std.proofs.lemmas.Slice.Eq.{bytes_eq-Decides}
 use Rattle.wasm_syntax.specs.declared.module.Module.{Module}
 use Rattle.wasm_syntax.specs.declared.module.Marks.{Marks}
 use Rattle.outline_check.specs.declared.notes.Notes.{Notes}
-use Rattle.outline_check.specs.declared.answer.Answer.{Answer}
-use Rattle.outline_check.specs.declared.answer.Answer.TheVariants as answer
-use Rattle.outline_check.specs.declared.answer.CheckFault.{CheckFault}
-use Rattle.outline_check.specs.declared.answer.CheckFault.TheVariants as fault
+use Rattle.outline_check.specs.Refusals.{Outline, Verified, Failed, Limit}
 use Rattle.outline_check.specs.Outlines.{outline}
 use Rattle.rw_edge.specs.Files.{contents_of}
 use Rattle.first_reader.specs.Trees.{first_module}
@@ -24,11 +21,10 @@ use Rattle.verify_command.specs.declared.status.Status.TheVariants as status
 use Rattle.verify_command.specs.Reports.{Report, module_limit, notes_limit, outlined, noted, read_as, judged, with_contents, module_too_long, notes_too_long, notes_report, verify_report, report, words_refused, Comes}
 use Rattle.verify_command.specs.Accepted.{IsAccepted}
 
-good_outline : (r : Result Answer CheckFault) → (outlined r).status ≡ status.Good → r ≡ Ok answer.Verified
-good_outline (Ok answer.Verified) e = refl
-good_outline (Ok (answer.Failed at function reason)) e = absurd cc
-good_outline (Err (fault.Limit at word)) e = absurd cc
-good_outline (Err fault.OutOfMemory) e = absurd cc
+good_outline : (r : Outline) → (outlined r).status ≡ status.Good → r ≡ Verified
+good_outline Verified e = refl
+good_outline (Failed at function reason) e = absurd cc
+good_outline (Limit at word) e = absurd cc
 
 -- what a good verdict on bytes and text rests on
 record IsJudged (bytes text : List ℕ) : Type 0 where
@@ -37,7 +33,7 @@ record IsJudged (bytes text : List ℕ) : Type 0 where
   notes : Notes
   read : IsFirstBytes bytes «module» marks
   said : IsFirstText text notes
-  verified : outline «module» marks notes ≡ Ok answer.Verified
+  verified : outline «module» marks notes ≡ Verified
 
 good_notes : (bytes text : List ℕ) (m : Module) (k : Marks) → IsFirstBytes bytes m k → (o : Option Notes) → first_notes text ≡ o → (noted m k o).status ≡ status.Good → IsJudged bytes text
 good_notes bytes text m k r None e g = absurd cc

@@ -1,9 +1,9 @@
 -- What it means that a run verifies, without the report.
-use Rattle.std.specs.Prelude.{◌≡◌, ◌≤◌, ℕ, List, [], ◌∷◌, length, Some, Ok, codes}
+use Rattle.std.specs.Prelude.{◌≡◌, ◌≤◌, ℕ, List, [], ◌∷◌, length, Some, codes}
 use Rattle.wasm_syntax.specs.declared.module.Module.{Module}
 use Rattle.wasm_syntax.specs.declared.module.Marks.{Marks}
 use Rattle.outline_check.specs.declared.notes.Notes.{Notes}
-use Rattle.outline_check.specs.declared.answer.Answer.TheVariants as answer
+use Rattle.outline_check.specs.Refusals.{Verified}
 use Rattle.outline_check.specs.Outlines.{outline}
 use Rattle.rw_edge.specs.Files.{contents_of}
 use Rattle.first_reader.specs.First.{IsFirstBytes}
@@ -20,7 +20,7 @@ pub record Accepts (bytes text : List ℕ) : Type 0 where
   pub short : length text ≤ notes_limit
   pub read : IsFirstBytes bytes «module» marks
   pub noted : IsFirstText text notes
-  pub verified : outline «module» marks notes ≡ Ok answer.Verified
+  pub verified : outline «module» marks notes ≡ Verified
 
 -- The words are `verify MODULE NOTES`, and the files of these names are accepted.
 pub record IsAccepted (words : List (List ℕ)) (files : List (List ℕ × List ℕ)) : Type 0 where

@@ -7,11 +7,9 @@ use Rattle.std.specs.Str.{bytes_eq}
 use Rattle.wasm_syntax.specs.declared.module.Module.{Module}
 use Rattle.wasm_syntax.specs.declared.module.Marks.{Marks}
 use Rattle.outline_check.specs.declared.notes.Notes.{Notes}
-use Rattle.outline_check.specs.declared.answer.Answer.{Answer}
-use Rattle.outline_check.specs.declared.answer.Answer.TheVariants as answer
-use Rattle.outline_check.specs.declared.answer.CheckFault.{CheckFault}
-use Rattle.outline_check.specs.declared.answer.CheckFault.TheVariants as fault
 use Rattle.outline_check.specs.declared.answer.LimitWord.TheVariants as word
+use Rattle.outline_check.specs.Refusals.{Outline}
+use Rattle.outline_check.specs.Refusals as outlines
 use Rattle.outline_check.specs.Outlines.{outline}
 use Rattle.rw_edge.specs.Files.{contents_of}
 use Rattle.first_reader.specs.Trees.{first_module}
@@ -52,12 +50,11 @@ unbuilt_module = record { text = line (codes "unbuilt module"); status = status.
 abbrev pub unbuilt_notes : Report
 unbuilt_notes = record { text = line (codes "unbuilt notes"); status = status.Negative }
 
--- What the outline check answers.
-abbrev pub outlined : Result Answer CheckFault → Report
-outlined (Ok answer.Verified) = record { text = line (codes "verified"); status = status.Good }
-outlined (Ok (answer.Failed at function reason)) = record { text = failed_line at function reason; status = status.Negative }
-outlined (Err (fault.Limit at word)) = record { text = limit_line word at; status = status.Limit }
-outlined (Err fault.OutOfMemory) = record { text = []; status = status.OutOfMemory }
+-- What the outline is.
+abbrev pub outlined : Outline → Report
+outlined outlines.Verified = record { text = line (codes "verified"); status = status.Good }
+outlined (outlines.Failed at function reason) = record { text = failed_line at function reason; status = status.Negative }
+outlined (outlines.Limit at word) = record { text = limit_line word at; status = status.Limit }
 
 -- The notes, and then the outline.
 abbrev pub noted : Module → Marks → Option Notes → Report

@@ -1,6 +1,6 @@
 // What is said of the bytes of a module and the text of notes.
 
-ghost use Rattle.std.specs.Prelude.{◌≡◌, Ok, IfOk, IfErr};
+ghost use Rattle.std.specs.Prelude.{◌≡◌, IfOk, IfErr};
 ghost use Rattle.outline_check.specs.Outlines.{outline};
 ghost use Rattle.outline_check.specs.First.{IsFirst, HasPlaces};
 ghost use Rattle.first_reader.specs.ReadingNotes.{first_notes};
@@ -11,25 +11,8 @@ use crate::report::{Report, Stop, fixed};
 use crate::status::Status;
 use first_reader::{ReadError, read_module, read_notes};
 use outline_check::{Answer, CheckFault, Notes, check_module};
-use std::alloc::{AllocError, Global};
+use std::alloc::Global;
 use wasm_syntax::{Marks, Module};
-
-fn answered(alloc: Global, answer: Answer) -> Result<Report, AllocError>
-    ensures made { IfOk result (λ r. seen r ≡ outlined (Ok answer)) }
-    ensures spoken { IfOk result (λ r. IsSpoken r.status) }
-{
-    match answer {
-        Answer::Verified => fixed(alloc, b"verified\n", Status::Good),
-        Answer::Failed {
-            at,
-            function,
-            reason,
-        } => Ok(Report {
-            text: failed_line(alloc, at, function, reason)?,
-            status: Status::Negative,
-        }),
-    }
-}
 
 // The outline.
 fn outlined(alloc: Global, module: &Module, marks: &Marks, notes: &Notes) -> Result<Report, Stop>
@@ -40,7 +23,17 @@ fn outlined(alloc: Global, module: &Module, marks: &Marks, notes: &Notes) -> Res
     ensures spoken { IfOk result (λ r. IsSpoken r.status) }
 {
     match check_module(alloc, module, notes, marks) {
-        Ok(answer) => Ok(answered(alloc, answer)?),
+        Ok(Answer::Verified) => Ok(fixed(alloc, b"verified\n", Status::Good)?),
+        Ok(
+            Answer::Failed {
+                at,
+                function,
+                reason,
+            },
+        ) => Ok(Report {
+            text: failed_line(alloc, at, function, reason)?,
+            status: Status::Negative,
+        }),
         Err(CheckFault::Limit { at, word }) => Ok(Report {
             text: limit_line(alloc, word, at)?,
             status: Status::Limit,
