@@ -1,11 +1,11 @@
 -- Where operators of two operands give nothing.
-use Rattle.std.proofs.Common.{◌≡◌, ℕ, ◌-◌, ◌/◌, ◌%◌, ◌^◌, ◌<◌, ◌≤◌, Bool, true, false, cond, eqb, Option, Some, None, pos, negsuc, neg_ℤ, int_div, int_rem, refl, sym, ap, ◌∙◌, ◌&&◌, ◌⊎◌, inl, inr, ⊎_elim, arith}
+use Rattle.std.proofs.Common.{◌≡◌, ℕ, ◌-◌, ◌/◌, ◌%◌, ◌^◌, ◌<◌, ◌≤◌, Bool, true, false, cond, eqb, Option, Some, None, pos, negsuc, neg_ℤ, int_div, int_rem, refl, ap, ◌∙◌, ◌⊎◌, inl, inr, ⊎_elim, arith}
 use Rattle.std.specs.Prelude.{IsNone, ◌↔◌}
 use Rattle.std.proofs.lemmas.Int.{ints}
 use Rattle.std.proofs.lemmas.Nat.{pow_pos}
 use Rattle.std.proofs.lemmas.Bool.{true≢false, false≢true, eq-eqb, eqb-true, and_parts, and_from}
 use Rattle.wasm_values.specs.declared.number.IntOp.{IntOp}
-use Rattle.wasm_values.specs.declared.number.IntOp.TheVariants.{Eqz, Eq, Ne, LtS, LtU, GtS, GtU, LeS, LeU, GeS, GeU, Clz, Ctz, Popcnt, Add, Sub, Mul, DivS, DivU, RemS, RemU, And, Or, Xor, Shl, ShrS, ShrU, Rotl, Rotr}
+use Rattle.wasm_values.specs.declared.number.IntOp.TheVariants.{Eqz, Clz, Ctz, Popcnt, DivS, DivU, RemS, RemU}
 use Rattle.wasm_values.specs.Operators.{IsWidth, IsUndefined, operands, signed, unsigned, binary, quotient}
 use Rattle.wasm_values.proofs.SignedLemmas.{overflow, twice-half, signed-cases, least-from, minus_one-from}
 use Rattle.wasm_values.proofs.WidthLemmas.{width-positive}
