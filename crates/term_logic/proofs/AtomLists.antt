@@ -1,12 +1,11 @@
 -- Lists of atoms, and the parts that a coefficient gives them.
-use Rattle.std.proofs.Common.{◌≡◌, ℤ, pos, Bool, true, false, not, ◌&&◌, ◌||◌, List, [], ◌∷◌, ◌++◌, map, Option, Some, None, refl, sym, ap, ◌∙◌}
+use Rattle.std.proofs.Common.{◌≡◌, ℤ, pos, Bool, true, false, not, ◌&&◌, ◌||◌, List, [], ◌∷◌, ◌++◌, map, Some, None, refl, sym, ap, ◌∙◌}
 use Rattle.std.specs.Prelude.{filter, if◌then◌else◌, option_map}
-use Rattle.std.specs.Ordering.{int_eq}
 use Rattle.std.specs.List.{list_all}
 use Rattle.term_logic.specs.declared.term.Term.{Term}
 use Rattle.term_logic.specs.Same.{same}
 use Rattle.term_logic.specs.Normal.{is_low, distinct}
-use Rattle.term_logic.specs.Linear.{coefficient_in, occurs_in, limited_parts, is_constant_parts}
+use Rattle.term_logic.specs.Linear.{coefficient_in, occurs_in, limited_parts}
 use Rattle.term_logic.proofs.Sameness.{same-exact}
 
 -- whether a term is one of a list

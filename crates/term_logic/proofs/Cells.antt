@@ -1,5 +1,5 @@
 -- The derived `==` of the parts of a cell is equality of values.
-use Rattle.std.proofs.Common.{◌≡◌, Bool, true, false, ◌&&◌, refl, sym, ap, true≢false}
+use Rattle.std.proofs.Common.{◌≡◌, true, refl, ap}
 use Rattle.std.proofs.lemmas.Bool.{eqb-true}
 use Rattle.std.proofs.lemmas.Bool.Decides.{Decides-int_eq}
 use denote.Enum.Bare.{same_true}

@@ -1,10 +1,10 @@
 -- How formulas over a table follow its growth.
-use Rattle.std.proofs.Common.{◌≡◌, ◌↔◌, ℕ, ◌<◌, ◌≤◌, List, [], ◌∷◌, map, length, slice_get, Option, Some, None, IfSome, refl, sym, ap, subst, ◌∙◌, arith}
+use Rattle.std.proofs.Common.{◌≡◌, ℕ, ◌<◌, ◌≤◌, List, [], ◌∷◌, map, length, slice_get, Option, Some, None, IfSome, refl, sym, ap, subst, ◌∙◌, arith}
 use Rattle.std.proofs.lemmas.List.Elements.{All-head, All-tail}
 use Rattle.std.specs.List.{All}
 use Rattle.std.specs.Option.{option_map}
 use Rattle.term_logic.specs.declared.term.Term.{Term}
-use Rattle.term_logic.specs.declared.term.Formula.{Formula, roll-Formula, out-Formula, roll-out-Formula, out-roll-Formula}
+use Rattle.term_logic.specs.declared.term.Formula.{Formula, roll-Formula, out-Formula, out-roll-Formula}
 use Rattle.term_logic.specs.declared.term.Formula.TheOpen.{Formula-F}
 use Rattle.term_logic.specs.declared.term.Formula.TheOpen as tree
 use Rattle.term_logic.specs.declared.formula.IdFormula.{IdFormula, roll-IdFormula, out-IdFormula, roll-out-IdFormula, map-IdFormula, fold-roll-IdFormula, ind-IdFormula}

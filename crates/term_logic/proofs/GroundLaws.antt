@@ -1,11 +1,11 @@
 -- Ground values and truths under any numbers.
-use Rattle.std.proofs.Common.{◌≡◌, ℕ, ℤ, pos, ◌+ℤ◌, ◌-ℤ◌, ◌*ℤ◌, Bool, true, false, not, ◌&&◌, ◌||◌, List, ◌++◌, Some, None, refl, sym, ap, subst, ◌∙◌, true≢false}
+use Rattle.std.proofs.Common.{◌≡◌, ℤ, ◌+ℤ◌, ◌-ℤ◌, ◌*ℤ◌, Bool, true, false, not, ◌&&◌, ◌||◌, List, ◌++◌, Some, None, refl, sym, ap, ◌∙◌, true≢false}
 use Rattle.std.specs.Prelude.{if◌then◌else◌, int_lt, int_le}
 use Rattle.std.specs.List.{list_all}
 use Rattle.std.specs.Ordering.{int_eq}
-use Rattle.term_logic.specs.declared.term.Term.{Term, roll-Term, map-Term, fold-roll-Term}
+use Rattle.term_logic.specs.declared.term.Term.{Term, map-Term, fold-roll-Term}
 use Rattle.term_logic.specs.declared.term.Term.TheOpen.{Term-F, Num, Var, Own, At, Add, Sub, Mul, One, Two, Low, Sext, Sgn}
-use Rattle.term_logic.specs.declared.term.Formula.{Formula, roll-Formula, map-Formula, fold-roll-Formula}
+use Rattle.term_logic.specs.declared.term.Formula.{Formula, map-Formula, fold-roll-Formula}
 use Rattle.term_logic.specs.declared.term.Formula.TheOpen as layer
 use Rattle.term_logic.specs.declared.term.Formula.TheOpen.{Formula-F}
 use Rattle.term_logic.specs.Terms.{joined_here, subterms}

@@ -1,7 +1,6 @@
 -- The ground value of a term, by its outermost form.
-use Rattle.std.proofs.Common.{◌≡◌, ℕ, ◌<◌, ◌^◌, ℤ, pos, ◌+ℤ◌, ◌-ℤ◌, ◌*ℤ◌, Bool, true, false, not, ◌&&◌, ◌||◌, IsTrue, List, [], ◌∷◌, ◌++◌, Option, Some, None, refl, sym, ap, ◌∙◌, arith}
-use Rattle.std.specs.Prelude.{option_and_then, unwrap_or, if◌then◌else◌, unsigned_abs, int_lt, int_le}
-use Rattle.std.specs.Ordering.{int_eq}
+use Rattle.std.proofs.Common.{◌≡◌, ℕ, ◌<◌, ◌^◌, ℤ, pos, ◌+ℤ◌, ◌-ℤ◌, ◌*ℤ◌, Bool, true, false, ◌&&◌, List, [], ◌∷◌, ◌++◌, Option, Some, None, refl, sym, ap, ◌∙◌, arith}
+use Rattle.std.specs.Prelude.{option_and_then, unwrap_or, if◌then◌else◌, unsigned_abs}
 use Rattle.std.specs.List.{list_all}
 use Rattle.std.proofs.lemmas.Int.{to_z-of_z, fits_signed_from_abs}
 use mir.Val.{to_z, of_z}
@@ -9,13 +8,13 @@ use mir.Syntax.{w128}
 use Rattle.wasm_values.specs.declared.number.NumOp.{NumOp}
 use Rattle.wasm_values.specs.Operators.{num_width, num_unary, num_binary, signed, sign_extended}
 use Rattle.term_logic.specs.declared.term.Place.{Place}
-use Rattle.term_logic.specs.declared.term.Term.{Term, roll-Term, out-Term, out-roll-Term, map-Term, fold-roll-Term}
+use Rattle.term_logic.specs.declared.term.Term.{Term, roll-Term, out-roll-Term, map-Term, fold-roll-Term}
 use Rattle.term_logic.specs.declared.term.Term.TheOpen.{Term-F, Num, Var, Own, At, Add, Sub, Mul, One, Two, Low, Sext, Sgn}
 use Rattle.term_logic.specs.declared.term.Term.TheVariants as term
 use Rattle.term_logic.specs.declared.term.Term.TheVariants.{rolls-Num, rolls-Var, rolls-Own, rolls-At, rolls-Add, rolls-Sub, rolls-Mul, rolls-One, rolls-Two, rolls-Low, rolls-Sext, rolls-Sgn}
 use Rattle.term_logic.specs.Terms.{joined_here, subterms}
 use Rattle.term_logic.specs.Meaning.{modulo, value_here, value}
-use Rattle.term_logic.specs.Ground.{no_numbers, names_nothing_here, names_nothing, is_small, bounded, both, is_ground, ground_value}
+use Rattle.term_logic.specs.Ground.{no_numbers, names_nothing_here, is_small, bounded, both, is_ground, ground_value}
 use Rattle.term_logic.proofs.Subterms.{subterms-roll}
 
 pub list_all-append : {X : Type 0} (p : X → Bool) (xs ys : List X) → list_all p (xs ++ ys) ≡ (list_all p xs && list_all p ys)

@@ -21,7 +21,7 @@ use Rattle.term_logic.proofs.Sameness.{induct, map_map, same-refl}
 use Rattle.term_logic.proofs.Subterms.{with-roll}
 use Rattle.term_logic.proofs.Grounded.{list_all-append}
 use Rattle.term_logic.proofs.LinearLists.{limited_parts-append}
-use Rattle.term_logic.proofs.AtomLists.{among, among-append, among-distinct, distinct-append, list_all-distinct, coefficient_in-with, occurs_in-with, list_all-with, limited_parts-all, with_coefficients}
+use Rattle.term_logic.proofs.AtomLists.{among, among-append, among-distinct, distinct-append, list_all-distinct, coefficient_in-with, occurs_in-with, list_all-with, limited_parts-all}
 
 pub form-roll : (l : Term-F Term) → form (roll-Term l) ≡ layer_form (roll-Term l) (map-Term Term Form form l)
 unfolding form

@@ -1,20 +1,18 @@
 -- A term with a normal form has the value of that form.
-use Rattle.std.proofs.Common.{◌≡◌, ℕ, ℤ, pos, ◌+ℤ◌, ◌-ℤ◌, ◌*ℤ◌, Bool, true, false, not, ◌&&◌, ◌||◌, List, [], ◌∷◌, ◌++◌, Option, Some, None, refl, sym, ap, subst, ◌∙◌, true≢false}
-use Rattle.std.specs.Prelude.{filter, if◌then◌else◌, option_map}
+use Rattle.std.proofs.Common.{◌≡◌, ℤ, pos, ◌+ℤ◌, ◌-ℤ◌, ◌*ℤ◌, Bool, true, false, not, ◌&&◌, ◌||◌, List, [], ◌∷◌, Some, None, refl, sym, ap, subst, ◌∙◌, true≢false}
+use Rattle.std.specs.Prelude.{if◌then◌else◌}
 use Rattle.std.specs.List.{list_all}
 use Rattle.std.specs.Ordering.{int_eq}
 use Rattle.std.proofs.lemmas.Bool.Decides.{Decides-int_eq}
 use Rattle.std.proofs.Math.IntN.{*ℤ-zero, zero-*ℤ}
 use Rattle.term_logic.specs.declared.term.Term.{Term, roll-Term, map-Term, fold-roll-Term}
 use Rattle.term_logic.specs.declared.term.Term.TheOpen.{Term-F, Num, Var, Own, At, Add, Sub, Mul, One, Two, Low, Sext, Sgn}
-use Rattle.term_logic.specs.declared.linear.Way.{Way}
-use Rattle.term_logic.specs.declared.linear.Way.TheVariants.{Sum, Difference, Times, By}
 use Rattle.term_logic.specs.declared.forms.Normal.{Normal}
 use Rattle.term_logic.specs.Same.{same}
 use Rattle.term_logic.specs.Meaning.{Numbers, value_here, value}
-use Rattle.term_logic.specs.Normal.{Form, number, single, combined, is_constant, product, layer_form, form, distinct, parts_of, nonzero, parts_value, fits, on_the_way, normal_form, normal_value}
+use Rattle.term_logic.specs.Normal.{Form, single, combined, is_constant, layer_form, form, distinct, parts_of, nonzero, parts_value, fits, on_the_way, normal_form, normal_value}
 use Rattle.term_logic.proofs.Sameness.{induct, map_map, same-exact, same-refl}
-use Rattle.term_logic.proofs.AtomLists.{among, among-append, among-distinct, with_coefficients, without}
+use Rattle.term_logic.proofs.AtomLists.{among, among-append, with_coefficients, without}
 use Rattle.term_logic.proofs.LinearForms.{form-roll, Covers, form-covers}
 use Rattle.term_logic.proofs.NormalForms.{finished}
 use Rattle.term_logic.proofs.Rings.{sum_of_sums, difference_of_sums, times_sum, sum_times, add_forms, subtract_forms, times_form, form_times, skip_zero, one_zero, zero_plus, plus_zero}

@@ -1,9 +1,8 @@
 -- Replacing leaves keeps values.
-use Rattle.std.proofs.Common.{◌≡◌, ℕ, ℤ, pos, ◌+ℤ◌, ◌-ℤ◌, ◌*ℤ◌, ◌^◌, Bool, not, ◌&&◌, ◌||◌, Option, Some, None, refl, sym, ap, ◌∙◌}
-use Rattle.std.specs.Prelude.{unwrap_or, slice_index_or, int_lt, int_le}
+use Rattle.std.proofs.Common.{◌≡◌, ℤ, ◌+ℤ◌, ◌-ℤ◌, ◌*ℤ◌, Bool, not, ◌&&◌, ◌||◌, Option, Some, None, refl, sym, ap, ◌∙◌}
+use Rattle.std.specs.Prelude.{unwrap_or, int_lt, int_le}
 use Rattle.std.specs.Option.{option_map_or}
 use Rattle.std.specs.Ordering.{int_eq}
-use Rattle.wasm_values.specs.Operators.{num_width, num_unary, num_binary, signed, sign_extended}
 use Rattle.term_logic.specs.declared.term.Term.{Term, roll-Term, map-Term, fold-roll-Term}
 use Rattle.term_logic.specs.declared.term.Term.TheOpen.{Term-F, Num, Var, Own, At, Add, Sub, Mul, One, Two, Low, Sext, Sgn}
 use Rattle.term_logic.specs.declared.term.Term.TheVariants as term
@@ -11,7 +10,7 @@ use Rattle.term_logic.specs.declared.term.Formula.{Formula, roll-Formula, map-Fo
 use Rattle.term_logic.specs.declared.term.Formula.TheOpen as layer
 use Rattle.term_logic.specs.declared.term.Formula.TheOpen.{Formula-F}
 use Rattle.term_logic.specs.declared.term.Formula.TheVariants as form
-use Rattle.term_logic.specs.Meaning.{Numbers, modulo, value_here, value, holds_here, holds}
+use Rattle.term_logic.specs.Meaning.{Numbers, value_here, value, holds_here, holds}
 use Rattle.term_logic.specs.Leaves.{Leaves, Stands, replaced_here, replaced, replaced_formula_here, replaced_formula}
 use Rattle.term_logic.proofs.Sameness.{induct, map_map, induct_formula, map_map_form}
 

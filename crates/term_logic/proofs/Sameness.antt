@@ -1,12 +1,10 @@
 -- `same` and `same_formula` are equality of trees.
-use Rattle.std.proofs.Common.{◌≡◌, ◌↔◌, ℕ, ℤ, Bool, true, false, ◌&&◌, ◌==◌, IsTrue, Option, Some, None, refl, sym, ap, subst, ◌∙◌, true≢false}
+use Rattle.std.proofs.Common.{◌≡◌, ◌↔◌, Bool, true, ◌&&◌, ◌==◌, IsTrue, refl, sym, ap, subst, ◌∙◌, true≢false}
 use Rattle.std.proofs.lemmas.Bool.{eqb-true, eq-eqb}
 use Rattle.std.proofs.lemmas.Bool.Decides.{Decides-int_eq}
 use Rattle.std.specs.Ordering.{int_eq}
-use Rattle.wasm_values.specs.declared.number.NumOp.{NumOp}
 use Rattle.wasm_values.specs.contracts.number.NumOpPartialEq.TheImpl as operator
 use Rattle.term_logic.specs.contracts.term.PlacePartialEq.TheImpl as place
-use Rattle.term_logic.specs.declared.term.Place.{Place}
 use Rattle.term_logic.specs.declared.term.Term.{Term, roll-Term, out-Term, roll-out-Term, out-roll-Term, map-Term, fold-roll-Term, ind-Term}
 use Rattle.term_logic.specs.declared.term.Term.TheOpen.{Term-F, Num, Var, Own, At, Add, Sub, Mul, One, Two, Low, Sext, Sgn}
 use Rattle.term_logic.specs.declared.term.Formula.{Formula, roll-Formula, out-Formula, roll-out-Formula, out-roll-Formula, map-Formula, fold-roll-Formula, ind-Formula}

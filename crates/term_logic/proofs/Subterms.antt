@@ -1,8 +1,8 @@
 -- The subterms of a term, by its outermost form.
-use Rattle.std.proofs.Common.{◌≡◌, List, ◌∷◌, ◌++◌, refl, ap, ◌∙◌}
+use Rattle.std.proofs.Common.{◌≡◌, List, ◌∷◌, refl, ap, ◌∙◌}
 use Rattle.term_logic.specs.declared.term.Term.{Term, roll-Term, map-Term, fold-Term, fold-roll-Term}
 use Rattle.term_logic.specs.declared.term.Term.TheOpen.{Term-F, Num, Var, Own, At, Add, Sub, Mul, One, Two, Low, Sext, Sgn}
-use Rattle.term_logic.specs.Terms.{joined_here, subterms_here, subterms}
+use Rattle.term_logic.specs.Terms.{joined_here, subterms}
 use Rattle.term_logic.proofs.Sameness.{induct, map_map}
 
 map_id : (l : Term-F Term) → map-Term Term Term (λ t. t) l ≡ l

@@ -1,5 +1,5 @@
 -- The truth of formulas without variables and places.
-use Rattle.std.specs.Prelude.{ℕ, ◌^◌, ℤ, pos, Bool, true, false, ◌&&◌, nat_lt, unsigned_abs, if◌then◌else◌, List, [], Option, Some, None}
+use Rattle.std.specs.Prelude.{◌^◌, ℤ, pos, Bool, true, false, ◌&&◌, nat_lt, unsigned_abs, if◌then◌else◌, [], Option, Some, None}
 use Rattle.std.specs.List.{list_all}
 use Rattle.term_logic.specs.declared.term.Term.{Term, out-Term}
 use Rattle.term_logic.specs.declared.term.Term.TheOpen.{Term-F, Var, Own, At}

@@ -1,5 +1,5 @@
 -- Terms and formulas with trees in place of their leaves.
-use Rattle.std.specs.Prelude.{◌≡◌, ℕ, ◌<◌, ℤ, pos, List, reverse, slice_get, slice_index_or, Option, unwrap_or, option_and_then, IfSome}
+use Rattle.std.specs.Prelude.{◌≡◌, ℕ, ◌<◌, pos, List, reverse, slice_get, slice_index_or, Option, unwrap_or, option_and_then, IfSome}
 use Rattle.std.specs.Option.{option_map, option_map_or}
 use Rattle.term_logic.specs.declared.term.Place.{Place}
 use Rattle.term_logic.specs.declared.term.Place.TheVariants.{Local, Stack, Global, Pages, Arg, Result}

@@ -1,5 +1,5 @@
 -- Whether two trees are equal, as a truth value that computes.
-use Rattle.std.specs.Prelude.{ℕ, Bool, false, ◌&&◌, ◌==◌, Option}
+use Rattle.std.specs.Prelude.{Bool, false, ◌&&◌, ◌==◌, Option}
 use Rattle.std.specs.Option.{option_map_or}
 use Rattle.std.specs.Ordering.{int_eq}
 use Rattle.wasm_values.specs.contracts.number.NumOpPartialEq.TheImpl as operator

@@ -1,5 +1,5 @@
 -- What a term is: its nodes, its parts, and when it is well formed.
-use Rattle.std.specs.Prelude.{ℕ, ◌+◌, Bool, true, false, ◌&&◌, ◌||◌, ◌==◌, IsTrue, List, [], ◌∷◌, ◌++◌}
+use Rattle.std.specs.Prelude.{ℕ, ◌+◌, Bool, true, ◌&&◌, ◌||◌, ◌==◌, List, [], ◌∷◌, ◌++◌}
 use Rattle.wasm_values.specs.Operators.{num_operands}
 use Rattle.term_logic.specs.declared.term.Term.{Term, fold-Term, roll-Term, map-Term}
 use Rattle.term_logic.specs.declared.term.Term.TheOpen.{Term-F, Num, Var, Own, At, Add, Sub, Mul, One, Two, Low, Sext, Sgn}

@@ -1,4 +1,4 @@
-use Rattle.std.proofs.Common.{rules, ◌≡◌, ◌++◌, Some, arith}
+use Rattle.std.proofs.Common.{rules, ◌≡◌, ◌++◌, Some}
 use Rattle.std.proofs.lemmas.Int.{to_z-of_z}
 use mir.Syntax.{w128}
 use Rattle.term_logic.specs.Linear.{shown, shown_form, applied, limited, limited_parts, kept_parts, fresh_parts}

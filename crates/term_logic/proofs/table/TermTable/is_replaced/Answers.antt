@@ -1,4 +1,3 @@
-use Rattle.std.proofs.Common.{◌↔◌, IsTrue, sym, subst}
 use Rattle.term_logic.proofs.Sameness.{same-is}
 use Rattle.term_logic.proofs.table.TermTable.is_replaced.Goals as goal
 

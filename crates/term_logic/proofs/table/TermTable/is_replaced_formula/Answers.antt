@@ -1,4 +1,3 @@
-use Rattle.std.proofs.Common.{◌↔◌, IsTrue, sym, subst}
 use Rattle.term_logic.proofs.Sameness.{same_formula-is}
 use Rattle.term_logic.proofs.table.TermTable.is_replaced_formula.Goals as goal
 
