@@ -1,0 +1,114 @@
+ghost use Rattle.std.specs.Prelude.{◌≡◌, ℕ, ◌+◌, ◌-◌, ◌*◌, ◌^◌, ◌<◌, ◌≤◌, List, length, IfOk};
+ghost use Rattle.wasm_binary.specs.Numbers.{twos_complement};
+ghost use Rattle.wasm_binary.specs.NumberReading.{GivesNumber, digits_at, u32_at, s32_at, s64_at};
+
+use crate::fault::LebFault;
+
+/// The value of a number's digits, and how many they are.
+#[derive(Clone, Copy)]
+struct Digits {
+    value: u128,
+    len: usize,
+}
+
+#[tactic(auto, unfolding(crate::specs::NumberReading::digits_at))]
+fn take_digits(bytes: &[u8], most: usize) -> Result<(Digits, &[u8]), LebFault>
+    requires { most ≤ 10 }
+    ensures exact { GivesNumber (λ x. (x.0.value, x.0.len, x.1.now)) result (digits_at most bytes.now) }
+    ensures small { IfOk result (λ x. x.0.value < 128 ^ x.0.len) }
+    ensures few { IfOk result (λ x. x.0.len ≤ most) }
+    ensures some { IfOk result (λ x. 1 ≤ x.0.len) }
+{
+    if most == 0 {
+        return Err(LebFault::Number);
+    }
+    match bytes {
+        [] => Err(LebFault::End),
+        [byte, rest @ ..] => {
+            if *byte < 128 {
+                let value = u128::from(*byte);
+                return Ok((Digits { value, len: 1 }, rest));
+            }
+            let (high, rest) = take_digits(rest, most - 1)?;
+            let value = u128::from(*byte % 128) + 128 * high.value;
+            let len = high.len + 1;
+            Ok((Digits { value, len }, rest))
+        }
+    }
+}
+
+// Half of the numbers of so many digits.
+fn half(len: usize) -> u128
+    requires some { 1 ≤ len }
+    requires few { len ≤ 10 }
+    ensures value { result ≡ 2 ^ (7 * len - 1) }
+    ensures bits { 2 ^ (7 * len) ≡ result + result }
+    ensures digits { 128 ^ len ≡ result + result }
+    ensures bound { result ≤ 2 ^ 69 }
+{
+    match len {
+        1 => 1 << 6,
+        2 => 1 << 13,
+        3 => 1 << 20,
+        4 => 1 << 27,
+        5 => 1 << 34,
+        6 => 1 << 41,
+        7 => 1 << 48,
+        8 => 1 << 55,
+        9 => 1 << 62,
+        _ => 1 << 69,
+    }
+}
+
+// The digits read as a two's complement number of 7 bits each.
+fn signed(digits: Digits) -> i128
+    requires some { 1 ≤ digits.len }
+    requires few { digits.len ≤ 10 }
+    requires small { digits.value < 128 ^ digits.len }
+    ensures { result ≡ twos_complement (7 * digits.len) digits.value }
+{
+    let half = half(digits.len);
+    if digits.value < half {
+        digits.value as i128
+    } else {
+        digits.value as i128 - (half + half) as i128
+    }
+}
+
+#[tactic(auto, unfolding(crate::specs::NumberReading::u32_at))]
+pub(crate) fn take_u32(bytes: &[u8]) -> Result<(u32, &[u8]), LebFault>
+    ensures { GivesNumber (λ x. (x.0, x.1.now)) result (u32_at bytes.now) }
+{
+    let (digits, rest) = take_digits(bytes, 5)?;
+    if digits.value < 1 << 32 {
+        Ok((digits.value as u32, rest))
+    } else {
+        Err(LebFault::Number)
+    }
+}
+
+#[tactic(auto, unfolding(crate::specs::NumberReading::s32_at))]
+pub(crate) fn take_s32(bytes: &[u8]) -> Result<(i32, &[u8]), LebFault>
+    ensures { GivesNumber (λ x. (x.0, x.1.now)) result (s32_at bytes.now) }
+{
+    let (digits, rest) = take_digits(bytes, 5)?;
+    let value = signed(digits);
+    if -(1 << 31) <= value && value < 1 << 31 {
+        Ok((value as i32, rest))
+    } else {
+        Err(LebFault::Number)
+    }
+}
+
+#[tactic(auto, unfolding(crate::specs::NumberReading::s64_at))]
+pub(crate) fn take_s64(bytes: &[u8]) -> Result<(i64, &[u8]), LebFault>
+    ensures { GivesNumber (λ x. (x.0, x.1.now)) result (s64_at bytes.now) }
+{
+    let (digits, rest) = take_digits(bytes, 10)?;
+    let value = signed(digits);
+    if -(1 << 63) <= value && value < 1 << 63 {
+        Ok((value as i64, rest))
+    } else {
+        Err(LebFault::Number)
+    }
+}

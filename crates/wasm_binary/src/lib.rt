@@ -1,0 +1,8 @@
+//! Reads modules in the binary format.
+#![tactic(auto)]
+
+mod fault;
+mod leb;
+
+pub use fault::{DecodeFault, DecodeWord, LebFault, LimitWord};
+
