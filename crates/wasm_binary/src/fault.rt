@@ -1,4 +1,9 @@
+ghost use Rattle.std.specs.Prelude.{◌≡◌};
+ghost use Rattle.wasm_binary.specs.declared.fault.DecodeFault.{DecodeFault};
+ghost use Rattle.wasm_binary.specs.declared.fault.DecodeFault.TheVariants as DecodeFault;
+
 use thiserror::Error;
+use wasm_values::OutOfMemory;
 
 /// Why bytes spell no number.
 #[derive(Clone, Copy, Debug, PartialEq, Eq, Error)]
@@ -57,4 +62,12 @@ pub enum DecodeFault {
     Limit { at: usize, word: LimitWord },
     #[error("out of memory")]
     OutOfMemory,
+}
+
+impl From<OutOfMemory> for DecodeFault {
+    ghost from_gives = { λ _ e. e ≡ DecodeFault.OutOfMemory };
+
+    fn from(_error: OutOfMemory) -> DecodeFault {
+        DecodeFault::OutOfMemory
+    }
 }

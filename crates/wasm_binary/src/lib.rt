@@ -3,6 +3,6 @@
 
 mod fault;
 mod leb;
+mod read;
 
 pub use fault::{DecodeFault, DecodeWord, LebFault, LimitWord};
-
