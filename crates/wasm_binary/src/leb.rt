@@ -1,8 +1,8 @@
 ghost use Rattle.std.specs.Prelude.{◌≡◌, ℕ, ◌+◌, ◌-◌, ◌*◌, ◌^◌, ◌<◌, ◌≤◌, List, length, IfOk};
-ghost use Rattle.wasm_binary.specs.Numbers.{twos_complement};
-ghost use Rattle.wasm_binary.specs.NumberReading.{GivesNumber, digits_at, u32_at, s32_at, s64_at};
+ghost use Rattle.binary_grammar.specs.Numbers.{twos_complement};
+ghost use Rattle.binary_grammar.specs.NumberReading.{GivesNumber, digits_at, u32_at, s32_at, s64_at};
 
-use crate::fault::LebFault;
+use binary_grammar::LebFault;
 
 /// The value of a number's digits, and how many they are.
 #[derive(Clone, Copy)]
@@ -11,13 +11,14 @@ struct Digits {
     len: usize,
 }
 
-#[tactic(auto, unfolding(crate::specs::NumberReading::digits_at))]
+#[tactic(auto, unfolding(binary_grammar::specs::NumberReading::digits_at))]
 fn take_digits(bytes: &[u8], most: usize) -> Result<(Digits, &[u8]), LebFault>
     requires { most ≤ 10 }
     ensures exact { GivesNumber (λ x. (x.0.value, x.0.len, x.1.now)) result (digits_at most bytes.now) }
     ensures small { IfOk result (λ x. x.0.value < 128 ^ x.0.len) }
     ensures few { IfOk result (λ x. x.0.len ≤ most) }
     ensures some { IfOk result (λ x. 1 ≤ x.0.len) }
+    ensures shorter { IfOk result (λ x. length x.1.now ≤ length bytes.now) }
 {
     if most == 0 {
         return Err(LebFault::Number);
@@ -75,9 +76,10 @@ fn signed(digits: Digits) -> i128
     }
 }
 
-#[tactic(auto, unfolding(crate::specs::NumberReading::u32_at))]
+#[tactic(auto, unfolding(binary_grammar::specs::NumberReading::u32_at))]
 pub(crate) fn take_u32(bytes: &[u8]) -> Result<(u32, &[u8]), LebFault>
-    ensures { GivesNumber (λ x. (x.0, x.1.now)) result (u32_at bytes.now) }
+    ensures gives { GivesNumber (λ x. (x.0, x.1.now)) result (u32_at bytes.now) }
+    ensures shorter { IfOk result (λ x. length x.1.now ≤ length bytes.now) }
 {
     let (digits, rest) = take_digits(bytes, 5)?;
     if digits.value < 1 << 32 {
@@ -87,9 +89,10 @@ pub(crate) fn take_u32(bytes: &[u8]) -> Result<(u32, &[u8]), LebFault>
     }
 }
 
-#[tactic(auto, unfolding(crate::specs::NumberReading::s32_at))]
+#[tactic(auto, unfolding(binary_grammar::specs::NumberReading::s32_at))]
 pub(crate) fn take_s32(bytes: &[u8]) -> Result<(i32, &[u8]), LebFault>
-    ensures { GivesNumber (λ x. (x.0, x.1.now)) result (s32_at bytes.now) }
+    ensures gives { GivesNumber (λ x. (x.0, x.1.now)) result (s32_at bytes.now) }
+    ensures shorter { IfOk result (λ x. length x.1.now ≤ length bytes.now) }
 {
     let (digits, rest) = take_digits(bytes, 5)?;
     let value = signed(digits);
@@ -100,9 +103,10 @@ pub(crate) fn take_s32(bytes: &[u8]) -> Result<(i32, &[u8]), LebFault>
     }
 }
 
-#[tactic(auto, unfolding(crate::specs::NumberReading::s64_at))]
+#[tactic(auto, unfolding(binary_grammar::specs::NumberReading::s64_at))]
 pub(crate) fn take_s64(bytes: &[u8]) -> Result<(i64, &[u8]), LebFault>
-    ensures { GivesNumber (λ x. (x.0, x.1.now)) result (s64_at bytes.now) }
+    ensures gives { GivesNumber (λ x. (x.0, x.1.now)) result (s64_at bytes.now) }
+    ensures shorter { IfOk result (λ x. length x.1.now ≤ length bytes.now) }
 {
     let (digits, rest) = take_digits(bytes, 10)?;
     let value = signed(digits);

@@ -1,8 +1,9 @@
 //! Reads modules in the binary format.
 #![tactic(auto)]
 
-mod fault;
+mod entries;
 mod leb;
 mod read;
+mod types;
 
-pub use fault::{DecodeFault, DecodeWord, LebFault, LimitWord};
+pub use binary_grammar::{DecodeFault, DecodeWord, Decoded, LebFault, LimitWord};

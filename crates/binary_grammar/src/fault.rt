@@ -1,6 +1,6 @@
 ghost use Rattle.std.specs.Prelude.{◌≡◌};
-ghost use Rattle.wasm_binary.specs.declared.fault.DecodeFault.{DecodeFault};
-ghost use Rattle.wasm_binary.specs.declared.fault.DecodeFault.TheVariants as DecodeFault;
+ghost use Rattle.binary_grammar.specs.declared.fault.DecodeFault.{DecodeFault};
+ghost use Rattle.binary_grammar.specs.declared.fault.DecodeFault.TheVariants as DecodeFault;
 
 use thiserror::Error;
 use wasm_values::OutOfMemory;

@@ -1,9 +1,9 @@
 -- Reading a number from the front of a list, with the first fault that is met.
 use Rattle.std.specs.Prelude.{◌≡◌, ℕ, zero, suc, ◌+◌, ◌-◌, ◌*◌, ◌%◌, ◌^◌, nat_lt, if◌then◌else◌, Bool, List, [], ◌∷◌, Result, Ok, Err, ℤ, pos, negsuc}
 use Rattle.std.specs.Int.{Width, w32, w64}
-use Rattle.wasm_binary.specs.declared.fault.LebFault.{LebFault}
-use Rattle.wasm_binary.specs.declared.fault.LebFault.TheVariants.{End, Number}
-use Rattle.wasm_binary.specs.Numbers.{twos_complement}
+use Rattle.binary_grammar.specs.declared.fault.LebFault.{LebFault}
+use Rattle.binary_grammar.specs.declared.fault.LebFault.TheVariants.{End, Number}
+use Rattle.binary_grammar.specs.Numbers.{twos_complement}
 
 -- What a function returned, seen by view, is what reading gives.
 abbrev pub GivesNumber : {X Y : Type 0} → (X → Y) → Result X LebFault → Result Y LebFault → Type 0
