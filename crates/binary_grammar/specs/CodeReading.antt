@@ -1,5 +1,5 @@
 -- Reading instructions, expressions and bodies (Core Specification, 5.4 and 5.5.13).
-use Rattle.std.specs.Prelude.{◌≡◌, ℕ, zero, suc, ◌+◌, ◌-◌, nat_lt, ◌==◌, if◌then◌else◌, Bool, true, false, List, [], ◌∷◌, ◌++◌, length, Option, Some, None, Result, Ok, Err, ℤ}
+use Rattle.std.specs.Prelude.{◌≡◌, ℕ, zero, suc, ◌+◌, ◌-◌, nat_lt, ◌==◌, if◌then◌else◌, Bool, true, false, List, [], ◌∷◌, ◌++◌, length, Option, Some, None, Result, Ok, Err, ℤ, IsTrue}
 use Rattle.std.specs.Int.{w32, w64, cast_unsigned}
 use Rattle.wasm_values.specs.declared.number.ValType.{ValType}
 use Rattle.wasm_values.specs.declared.number.Val.TheVariants as val
@@ -12,6 +12,7 @@ use Rattle.wasm_syntax.specs.declared.kind.Opcode.{Opcode}
 use Rattle.wasm_syntax.specs.declared.kind.Opcode.TheVariants.{Unreachable, Nop, Block, Loop, If, Else, End, Br, BrIf, BrTable, Return, Call, CallIndirect, Drop, Select, LocalGet, LocalSet, LocalTee, GlobalGet, GlobalSet, Load, Store, MemorySize, MemoryGrow, I32Const, I64Const, Num}
 use Rattle.wasm_syntax.specs.declared.kind.Kind.{Kind}
 use Rattle.wasm_syntax.specs.declared.kind.Kind.TheVariants as kind
+use Rattle.wasm_syntax.specs.FlatForm.{is_simple}
 use Rattle.wasm_syntax.specs.Opcodes.{kind_of}
 use Rattle.wasm_syntax.specs.Parts.{Part, own, may_turn, then_item}
 use Rattle.binary_grammar.specs.declared.fault.LebFault.{LebFault}
@@ -47,27 +48,31 @@ with_two f end bytes = do
 abbrev pub with_zero : Instr → Reader Instr
 with_zero i end bytes = tag_at 0 end bytes >>= λ x. Ok (i, x.1)
 
--- The immediates of an instruction with numbers, whose opcode stands at a place.
+-- The immediate of an instruction with one number, whose opcode stands at a place.
+unfoldable pub index_at : ℕ → Opcode → Reader Instr
+index_at at Br end bytes = with_index instr.Br end bytes
+index_at at BrIf end bytes = with_index instr.BrIf end bytes
+index_at at Call end bytes = with_index instr.Call end bytes
+index_at at LocalGet end bytes = with_index instr.LocalGet end bytes
+index_at at LocalSet end bytes = with_index instr.LocalSet end bytes
+index_at at LocalTee end bytes = with_index instr.LocalTee end bytes
+index_at at GlobalGet end bytes = with_index instr.GlobalGet end bytes
+index_at at GlobalSet end bytes = with_index instr.GlobalSet end bytes
+index_at at _ end bytes = Err (Malformed at word.Byte)
+
+-- The immediates of an instruction with numbers.
 unfoldable pub indexed_at : ℕ → Opcode → Reader Instr
-indexed_at at Br end bytes = with_index instr.Br end bytes
-indexed_at at BrIf end bytes = with_index instr.BrIf end bytes
 indexed_at at BrTable end bytes = do
   labels ← list_at number_at end bytes
   last ← number_at end labels.1
   Ok (instr.BrTable labels.0 last.0, last.1)
-indexed_at at Call end bytes = with_index instr.Call end bytes
 indexed_at at CallIndirect end bytes = do
   n ← number_at end bytes
   z ← tag_at 0 end n.1
   Ok (instr.CallIndirect n.0, z.1)
-indexed_at at LocalGet end bytes = with_index instr.LocalGet end bytes
-indexed_at at LocalSet end bytes = with_index instr.LocalSet end bytes
-indexed_at at LocalTee end bytes = with_index instr.LocalTee end bytes
-indexed_at at GlobalGet end bytes = with_index instr.GlobalGet end bytes
-indexed_at at GlobalSet end bytes = with_index instr.GlobalSet end bytes
 indexed_at at (Load op) end bytes = with_two (instr.Load op) end bytes
 indexed_at at (Store op) end bytes = with_two (instr.Store op) end bytes
-indexed_at at _ end bytes = Err (Malformed at word.Byte)
+indexed_at at op end bytes = index_at at op end bytes
 
 -- The immediates of an instruction that is no block, loop, if, else or end.
 unfoldable pub simple_at : ℕ → Opcode → Reader Instr
@@ -84,15 +89,15 @@ simple_at at I64Const end bytes = word64_at end bytes >>= λ n. Ok (instr.Const 
 simple_at at op end bytes = indexed_at at op end bytes
 
 -- The block type of a block, loop or if, unless too many blocks are open.
-unfoldable pub head_at : Bool → ℕ → (Option ValType → Flat) → Reader Flat
-head_at true at f end bytes = Err (Limit at Nesting)
-head_at false at f end bytes = block_type_at end bytes >>= λ t. Ok (f t.0, t.1)
+unfoldable pub head_at : Bool → ℕ → Reader (Option ValType)
+head_at true at end bytes = Err (Limit at Nesting)
+head_at false at end bytes = block_type_at end bytes
 
 -- The rest of an item behind its opcode. `turn` says whether an `else` may come, `full` whether no block may.
 unfoldable pub op_at : Bool → Bool → ℕ → Opcode → Reader Flat
-op_at turn full at Block end bytes = head_at full at item.Block end bytes
-op_at turn full at Loop end bytes = head_at full at item.Loop end bytes
-op_at turn full at If end bytes = head_at full at item.If end bytes
+op_at turn full at Block end bytes = head_at full at end bytes >>= λ t. Ok (item.Block t.0, t.1)
+op_at turn full at Loop end bytes = head_at full at end bytes >>= λ t. Ok (item.Loop t.0, t.1)
+op_at turn full at If end bytes = head_at full at end bytes >>= λ t. Ok (item.If t.0, t.1)
 op_at true full at Else end bytes = Ok (item.Else, bytes)
 op_at false full at Else end bytes = Err (Malformed at word.Byte)
 op_at turn full at End end bytes = Ok (item.End, bytes)
@@ -107,6 +112,12 @@ unfoldable pub item_at : Bool → Bool → Reader Flat
 item_at turn full end bytes = do
   b ← byte_at end bytes
   kind_at turn full (place end bytes) (kind_of b.0) end b.1
+
+-- Whether an item fits an expression: one instruction is no block, and an `else` may come.
+abbrev pub FitsIn : Bool → Flat → Type 0
+FitsIn turn (item.One i) = IsTrue (is_simple i)
+FitsIn turn item.Else = IsTrue turn
+FitsIn turn _ = Unit {0}
 
 -- Whether an item is the last of an expression with these open parts.
 abbrev pub is_last : List Part → Flat → Bool

@@ -2,6 +2,7 @@
 #![tactic(auto)]
 
 mod entries;
+mod instrs;
 mod leb;
 mod read;
 mod types;
