@@ -1,5 +1,5 @@
 -- Reading instructions, expressions and bodies (Core Specification, 5.4 and 5.5.13).
-use Rattle.std.specs.Prelude.{◌≡◌, ℕ, zero, suc, ◌+◌, ◌-◌, nat_lt, ◌==◌, if◌then◌else◌, Bool, true, false, List, [], ◌∷◌, ◌++◌, length, Option, Some, None, Result, Ok, Err, ℤ, IsTrue}
+use Rattle.std.specs.Prelude.{◌≡◌, ℕ, zero, suc, ◌+◌, ◌-◌, nat_lt, nat_le, ◌==◌, if◌then◌else◌, Bool, true, false, List, [], ◌∷◌, ◌++◌, length, Option, Some, None, Result, Ok, Err, ℤ, IsTrue}
 use Rattle.std.specs.Int.{w32, w64, cast_unsigned}
 use Rattle.wasm_values.specs.declared.number.ValType.{ValType}
 use Rattle.wasm_values.specs.declared.number.Val.TheVariants as val
@@ -119,11 +119,10 @@ FitsIn turn (item.One i) = IsTrue (is_simple i)
 FitsIn turn item.Else = IsTrue turn
 FitsIn turn _ = Unit {0}
 
--- Whether an item is the last of an expression with these open parts.
-abbrev pub is_last : List Part → Flat → Bool
-is_last [] item.End = true
-is_last (p ∷ []) item.End = true
-is_last _ _ = false
+-- Whether an item is the last of an expression with so many open parts, its own among them.
+abbrev pub is_last : ℕ → Flat → Bool
+is_last parts item.End = nat_le parts 1
+is_last parts _ = false
 
 -- the instructions of an expression of which no part but its own is open
 abbrev pub own_instrs : List Part → List Instr
@@ -135,22 +134,27 @@ unfoldable pub rest_at : ℕ → ℕ → List Part → Reader (List Instr × Lis
 rest_at most zero ps end bytes = Err (Malformed end word.End)
 rest_at most (suc n) ps end bytes = do
   i ← item_at (may_turn ps) (nat_lt most (length ps)) end bytes
-  if is_last ps i.0 then Ok ((own_instrs ps, place end bytes ∷ []), i.1) else
+  if is_last (length ps) i.0 then Ok ((own_instrs ps, place end bytes ∷ []), i.1) else
     (rest_at most n (then_item ps i.0) end i.1 >>= λ x. Ok ((x.0.0, place end bytes ∷ x.0.1), x.1))
 
 -- An expression, with the place of each item. At most so many blocks are open at once.
 unfoldable pub expression_at : ℕ → Reader (List Instr × List ℕ)
 expression_at most end bytes = rest_at most (length bytes) (own [] ∷ []) end bytes
 
+-- A run of equal locals, behind a number of locals: how many, and their type.
+unfoldable pub run_of_locals_at : ℕ → ℕ → Reader (ℕ × ValType)
+run_of_locals_at most sum end bytes = do
+  count ← number_at end bytes
+  if nat_lt most (sum + count.0) then Err (Limit (place end bytes) Locals)
+    else (value_type_at end count.1 >>= λ t. Ok ((count.0, t.0), t.1))
+
 -- Runs of equal locals, behind a number of locals. At most so many locals are declared.
 unfoldable pub runs_at : ℕ → ℕ → ℕ → Reader (List ValType)
 runs_at most sum zero end bytes = Ok ([], bytes)
 runs_at most sum (suc n) end bytes = do
-  count ← number_at end bytes
-  if nat_lt most (sum + count.0) then Err (Limit (place end bytes) Locals) else (do
-    t ← value_type_at end count.1
-    more ← runs_at most (sum + count.0) n end t.1
-    Ok (copies count.0 t.0 ++ more.0, more.1))
+  run ← run_of_locals_at most sum end bytes
+  more ← runs_at most (sum + run.0.0) n end run.1
+  Ok (copies run.0.0 run.0.1 ++ more.0, more.1)
 
 unfoldable pub locals_at : ℕ → Reader (List ValType)
 locals_at most end bytes = do

@@ -1,1 +1,2 @@
 pub mod EntryLoop
+pub mod CodeLoop

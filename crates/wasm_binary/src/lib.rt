@@ -1,6 +1,7 @@
 //! Reads modules in the binary format.
 #![tactic(auto)]
 
+mod code;
 mod entries;
 mod instrs;
 mod leb;
