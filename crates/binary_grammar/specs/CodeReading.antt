@@ -141,6 +141,10 @@ rest_at most (suc n) ps end bytes = do
 unfoldable pub expression_at : ℕ → Reader (List Instr × List ℕ)
 expression_at most end bytes = rest_at most (length bytes) (own [] ∷ []) end bytes
 
+-- An expression whose places do not matter.
+unfoldable pub instrs_at : ℕ → Reader (List Instr)
+instrs_at most end bytes = expression_at most end bytes >>= λ x. Ok (x.0.0, x.1)
+
 -- A run of equal locals, behind a number of locals: how many, and their type.
 unfoldable pub run_of_locals_at : ℕ → ℕ → Reader (ℕ × ValType)
 run_of_locals_at most sum end bytes = do

@@ -20,27 +20,27 @@ use Rattle.binary_grammar.specs.declared.section.Decoded.{Decoded}
 use Rattle.binary_grammar.specs.Bounds.{Bounds}
 use Rattle.binary_grammar.specs.Reading.{◌>>=◌, Reader, place, byte_at, number_at, entries_at, vector_at, limited_at, list_at, bytes_at, name_at, region_at, ended}
 use Rattle.binary_grammar.specs.TypeReading.{func_type_at, limits_at, table_type_at, global_type_at, import_at, export_at}
-use Rattle.binary_grammar.specs.CodeReading.{expression_at, body_at}
+use Rattle.binary_grammar.specs.CodeReading.{instrs_at, body_at}
 
 unfoldable pub global_at : ℕ → Reader Global
 global_at nesting end bytes = do
   t ← global_type_at end bytes
-  init ← expression_at nesting end t.1
-  Ok (record { ty = t.0; init = init.0.0 }, init.1)
+  init ← instrs_at nesting end t.1
+  Ok (record { ty = t.0; init = init.0 }, init.1)
 
 unfoldable pub elem_at : ℕ → Reader Elem
 elem_at nesting end bytes = do
   table ← number_at end bytes
-  offset ← expression_at nesting end table.1
+  offset ← instrs_at nesting end table.1
   funcs ← list_at number_at end offset.1
-  Ok (record { table = table.0; offset = offset.0.0; funcs = funcs.0 }, funcs.1)
+  Ok (record { table = table.0; offset = offset.0; funcs = funcs.0 }, funcs.1)
 
 unfoldable pub segment_at : ℕ → Reader Segment
 segment_at nesting end bytes = do
   memory ← number_at end bytes
-  offset ← expression_at nesting end memory.1
+  offset ← instrs_at nesting end memory.1
   contents ← bytes_at end offset.1
-  Ok (record { memory = memory.0; offset = offset.0.0; bytes = contents.0 }, contents.1)
+  Ok (record { memory = memory.0; offset = offset.0; bytes = contents.0 }, contents.1)
 
 -- A custom section's contents are a name and whatever follows it.
 unfoldable pub custom_at : Reader Section

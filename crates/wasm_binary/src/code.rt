@@ -2,7 +2,7 @@ ghost use Rattle.std.specs.Prelude.{◌≡◌, ◌≤◌, ◌-◌, ◌+◌, ◌<
 ghost use Rattle.wasm_syntax.specs.Parts.{may_turn, then_item, flat_parts};
 ghost use Rattle.binary_grammar.specs.Bounds.{the_bounds, copies};
 ghost use Rattle.binary_grammar.specs.Reading.{Gives, place};
-ghost use Rattle.binary_grammar.specs.CodeReading.{FitsIn, is_last, expression_at, run_of_locals_at, runs_at, locals_at, body_at};
+ghost use Rattle.binary_grammar.specs.CodeReading.{FitsIn, is_last, expression_at, instrs_at, run_of_locals_at, runs_at, locals_at, body_at};
 
 use crate::entries::Entry;
 use crate::instrs::read_item;
@@ -10,7 +10,7 @@ use crate::read::{malformed, place, read_end, read_number, read_region};
 use crate::types::read_value_type;
 use binary_grammar::{Body, DecodeFault, DecodeWord, LimitWord};
 use std::alloc::Global;
-use wasm_syntax::{Code, CodeMaker, Flat, Head, MAX_ITEMS};
+use wasm_syntax::{Code, CodeMaker, Flat, Head, Instr, MAX_ITEMS};
 use wasm_values::{List, OutOfMemory, ValType};
 
 const MAX_NESTING: usize = 100;
@@ -64,6 +64,17 @@ pub(crate) fn read_expression(alloc: Global, bytes: &[u8], end: usize) -> Result
         take_item(&mut maker, item)?;
     }
     Err(malformed(end, DecodeWord::End))
+}
+
+/// An expression whose places do not matter.
+#[tactic(auto, unfolding(binary_grammar::specs::CodeReading::instrs_at))]
+pub(crate) fn read_instrs(alloc: Global, bytes: &[u8], end: usize) -> Result<(List<Instr>, &[u8]), DecodeFault>
+    requires { length bytes.now ≤ MAX_ITEMS }
+    ensures gives { Gives (λ x. (x.0, x.1.now)) result (instrs_at the_bounds.nesting end bytes.now) }
+    ensures shorter { IfOk result (λ x. length x.1.now ≤ length bytes.now) }
+{
+    let (code, _, rest) = read_expression(alloc, bytes, end)?;
+    Ok((code.tree(alloc)?, rest))
 }
 
 fn push_copies(locals: &mut List<ValType>, count: u32, ty: ValType) -> Result<(), OutOfMemory>

@@ -6,6 +6,7 @@ mod entries;
 mod instrs;
 mod leb;
 mod read;
+mod sections;
 mod types;
 
 pub use binary_grammar::{DecodeFault, DecodeWord, Decoded, LebFault, LimitWord};
