@@ -2,6 +2,7 @@
 #![tactic(auto)]
 
 mod code;
+mod decoder;
 mod entries;
 mod instrs;
 mod leb;
@@ -10,3 +11,4 @@ mod sections;
 mod types;
 
 pub use binary_grammar::{DecodeFault, DecodeWord, Decoded, LebFault, LimitWord};
+pub use decoder::decode;
