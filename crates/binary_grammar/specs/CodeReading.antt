@@ -22,7 +22,7 @@ use Rattle.binary_grammar.specs.declared.fault.DecodeWord.TheVariants as word
 use Rattle.binary_grammar.specs.declared.fault.LimitWord.TheVariants.{Nesting, Locals}
 use Rattle.binary_grammar.specs.declared.section.Body.{Body}
 use Rattle.binary_grammar.specs.NumberReading.{s32_at, s64_at}
-use Rattle.binary_grammar.specs.Reading.{◌>>=◌, Reader, place, of_number, byte_at, number_at, list_at, region_at, ended}
+use Rattle.binary_grammar.specs.Reading.{◌>>=◌, Reader, place, then_at, done_at, of_number, byte_at, number_at, list_at, sized_at}
 use Rattle.binary_grammar.specs.Bounds.{copies}
 use Rattle.binary_grammar.specs.TypeReading.{tag_at, value_type_at, block_type_at}
 
@@ -34,19 +34,16 @@ unfoldable pub word64_at : Reader ℕ
 word64_at end bytes = of_number end (place end bytes) (s64_at bytes) >>= λ x. Ok (cast_unsigned w64 x.0, x.1)
 
 abbrev pub without : Instr → Reader Instr
-without i end bytes = Ok (i, bytes)
+without i = done_at i
 
 abbrev pub with_index : (ℕ → Instr) → Reader Instr
-with_index f end bytes = number_at end bytes >>= λ n. Ok (f n.0, n.1)
+with_index f = then_at number_at (λ n. done_at (f n))
 
 abbrev pub with_two : (ℕ → ℕ → Instr) → Reader Instr
-with_two f end bytes = do
-  a ← number_at end bytes
-  b ← number_at end a.1
-  Ok (f a.0 b.0, b.1)
+with_two f = then_at number_at (λ a. then_at number_at (λ b. done_at (f a b)))
 
 abbrev pub with_zero : Instr → Reader Instr
-with_zero i end bytes = tag_at 0 end bytes >>= λ x. Ok (i, x.1)
+with_zero i = then_at (tag_at 0) (λ z. done_at i)
 
 -- The immediate of an instruction with one number, whose opcode stands at a place.
 unfoldable pub index_at : ℕ → Opcode → Reader Instr
@@ -62,14 +59,8 @@ index_at at _ end bytes = Err (Malformed at word.Byte)
 
 -- The immediates of an instruction with numbers.
 unfoldable pub indexed_at : ℕ → Opcode → Reader Instr
-indexed_at at BrTable end bytes = do
-  labels ← list_at number_at end bytes
-  last ← number_at end labels.1
-  Ok (instr.BrTable labels.0 last.0, last.1)
-indexed_at at CallIndirect end bytes = do
-  n ← number_at end bytes
-  z ← tag_at 0 end n.1
-  Ok (instr.CallIndirect n.0, z.1)
+indexed_at at BrTable end bytes = then_at (list_at number_at) (λ labels. then_at number_at (λ last. done_at (instr.BrTable labels last))) end bytes
+indexed_at at CallIndirect end bytes = then_at number_at (λ n. then_at (tag_at 0) (λ z. done_at (instr.CallIndirect n))) end bytes
 indexed_at at (Load op) end bytes = with_two (instr.Load op) end bytes
 indexed_at at (Store op) end bytes = with_two (instr.Store op) end bytes
 indexed_at at op end bytes = index_at at op end bytes
@@ -84,8 +75,8 @@ simple_at at Select end bytes = without (instr.Plain plain.Select) end bytes
 simple_at at (Num op) end bytes = without (instr.Num op) end bytes
 simple_at at MemorySize end bytes = with_zero (instr.Plain plain.MemorySize) end bytes
 simple_at at MemoryGrow end bytes = with_zero (instr.Plain plain.MemoryGrow) end bytes
-simple_at at I32Const end bytes = word32_at end bytes >>= λ n. Ok (instr.Const (val.I32 n.0), n.1)
-simple_at at I64Const end bytes = word64_at end bytes >>= λ n. Ok (instr.Const (val.I64 n.0), n.1)
+simple_at at I32Const end bytes = then_at word32_at (λ n. done_at (instr.Const (val.I32 n))) end bytes
+simple_at at I64Const end bytes = then_at word64_at (λ n. done_at (instr.Const (val.I64 n))) end bytes
 simple_at at op end bytes = indexed_at at op end bytes
 
 -- The block type of a block, loop or if, unless too many blocks are open.
@@ -95,13 +86,13 @@ head_at false at end bytes = block_type_at end bytes
 
 -- The rest of an item behind its opcode. `turn` says whether an `else` may come, `full` whether no block may.
 unfoldable pub op_at : Bool → Bool → ℕ → Opcode → Reader Flat
-op_at turn full at Block end bytes = head_at full at end bytes >>= λ t. Ok (item.Block t.0, t.1)
-op_at turn full at Loop end bytes = head_at full at end bytes >>= λ t. Ok (item.Loop t.0, t.1)
-op_at turn full at If end bytes = head_at full at end bytes >>= λ t. Ok (item.If t.0, t.1)
+op_at turn full at Block end bytes = then_at (head_at full at) (λ t. done_at (item.Block t)) end bytes
+op_at turn full at Loop end bytes = then_at (head_at full at) (λ t. done_at (item.Loop t)) end bytes
+op_at turn full at If end bytes = then_at (head_at full at) (λ t. done_at (item.If t)) end bytes
 op_at true full at Else end bytes = Ok (item.Else, bytes)
 op_at false full at Else end bytes = Err (Malformed at word.Byte)
 op_at turn full at End end bytes = Ok (item.End, bytes)
-op_at turn full at op end bytes = simple_at at op end bytes >>= λ i. Ok (item.One i.0, i.1)
+op_at turn full at op end bytes = then_at (simple_at at op) (λ i. done_at (item.One i)) end bytes
 
 unfoldable pub kind_at : Bool → Bool → ℕ → Kind → Reader Flat
 kind_at turn full at (kind.Op op) end bytes = op_at turn full at op end bytes
@@ -143,7 +134,7 @@ expression_at most end bytes = rest_at most (length bytes) (own [] ∷ []) end b
 
 -- An expression whose places do not matter.
 unfoldable pub instrs_at : ℕ → Reader (List Instr)
-instrs_at most end bytes = expression_at most end bytes >>= λ x. Ok (x.0.0, x.1)
+instrs_at most = then_at (expression_at most) (λ x. done_at x.0)
 
 -- A run of equal locals, behind a number of locals: how many, and their type.
 unfoldable pub run_of_locals_at : ℕ → ℕ → Reader (ℕ × ValType)
@@ -161,15 +152,13 @@ runs_at most sum (suc n) end bytes = do
   Ok (copies run.0.0 run.0.1 ++ more.0, more.1)
 
 unfoldable pub locals_at : ℕ → Reader (List ValType)
-locals_at most end bytes = do
-  n ← number_at end bytes
-  runs_at most 0 n.0 end n.1
+locals_at most = then_at number_at (λ n. runs_at most 0 n)
 
--- A function's body, in a region of its own.
+-- A function's locals and code.
+unfoldable pub body_contents_at : ℕ → ℕ → Reader Body
+body_contents_at locals nesting =
+    then_at (locals_at locals) (λ ls. then_at (expression_at nesting) (λ code. done_at (record { locals = ls; code = code.0; places = code.1 })))
+
+-- The same in a region of its own.
 unfoldable pub body_at : ℕ → ℕ → Reader Body
-body_at locals nesting end bytes = do
-  region ← region_at end bytes
-  ls ← locals_at locals region.1 region.0
-  code ← expression_at nesting region.1 ls.1
-  body ← ended (record { locals = ls.0; code = code.0.0; places = code.0.1 }) region.1 code.1
-  Ok (body, region.2)
+body_at locals nesting = sized_at (body_contents_at locals nesting)

@@ -1,6 +1,8 @@
 -- How numbers are spelled (Core Specification, 5.2.2, LEB128).
-use Rattle.std.specs.Prelude.{◌≡◌, ℕ, suc, ◌+◌, ◌-◌, ◌*◌, ◌%◌, ◌^◌, ◌<◌, ◌≤◌, nat_lt, if◌then◌else◌, List, [], ◌∷◌, length, ℤ, pos, negsuc, FitsSigned}
+use Rattle.std.specs.Prelude.{◌≡◌, ℕ, suc, ◌+◌, ◌-◌, ◌*◌, ◌%◌, ◌^◌, ◌<◌, ◌≤◌, nat_lt, if◌then◌else◌, List, [], ◌∷◌, ◌++◌, length, Result, Ok, Err, ℤ, pos, negsuc, FitsSigned}
 use Rattle.std.specs.Int.{Width, w32, w64}
+use Rattle.binary_grammar.specs.declared.fault.LebFault.{LebFault}
+use Rattle.binary_grammar.specs.declared.fault.LebFault.TheVariants.{End, Number}
 
 -- The bytes of one number: all but the last are 128 or more.
 abbrev pub AreDigits : List ℕ → Type 0
@@ -31,3 +33,27 @@ SpellsS32 = SpellsSigned w32 5
 
 abbrev pub SpellsS64 : List ℕ → ℤ → Type 0
 SpellsS64 = SpellsSigned w64 10
+
+-- The bytes of a number that has not ended: each is 128 or more.
+abbrev pub AreOpen : List ℕ → Type 0
+AreOpen [] = Unit {0}
+AreOpen (b ∷ bs) = (128 ≤ b) × AreOpen bs
+
+-- The bytes end inside a spelling that is not too long, where so many bytes may be taken.
+abbrev pub EndsInside : ℕ → List ℕ → Type 0
+EndsInside most bytes = AreOpen bytes × (length bytes < most)
+
+-- A front of the text that spells a value, and the place behind it; the text begins at a place.
+abbrev pub IsFound : {A : Type 0} → (List ℕ → A → Type 0) → List ℕ → ℕ → A × ℕ → Type 0
+IsFound Spells text from x = (front : List ℕ) × (rest : List ℕ) × (text ≡ front ++ rest) × Spells front x.0 × (x.1 ≡ from + length front)
+
+-- No front of the text spells a value.
+abbrev pub NoneFound : {A : Type 0} → (List ℕ → A → Type 0) → List ℕ → Type 0
+NoneFound {A} Spells text = (front rest : List ℕ) (x : A) → text ≡ front ++ rest → Spells front x → ⊥
+
+-- What a number reader answers, of a text that begins at a place: a value that a front spells, and the place behind it;
+-- the end, exactly where the text ends inside a spelling that is not too long; or else that this is no number.
+abbrev pub ReadsNumber : {A : Type 0} → (List ℕ → A → Type 0) → ℕ → List ℕ → ℕ → Result (A × ℕ) LebFault → Type 0
+ReadsNumber Spells most text from (Ok x) = IsFound Spells text from x
+ReadsNumber Spells most text from (Err End) = EndsInside most text
+ReadsNumber Spells most text from (Err Number) = NoneFound Spells text × (EndsInside most text → ⊥)

@@ -41,6 +41,14 @@ abbrev pub of_number : {A : Type 0} → ℕ → ℕ → Result (A × List ℕ) L
 of_number end at (Ok x) = Ok x
 of_number end at (Err e) = Err (number_fault_of e at end)
 
+-- One reader, and then another, which may depend on what the first gave.
+unfoldable pub then_at : {A B : Type 0} → Reader A → (A → Reader B) → Reader B
+then_at r s end bytes = r end bytes >>= λ x. s x.0 end x.1
+
+-- Nothing more is read.
+unfoldable pub done_at : {A : Type 0} → A → Reader A
+done_at x end bytes = Ok (x, bytes)
+
 unfoldable pub number_at : Reader ℕ
 number_at end bytes = of_number end (place end bytes) (u32_at bytes)
 
@@ -58,9 +66,7 @@ entries_at r (suc n) end bytes = do
 
 -- A count, and so many entries.
 unfoldable pub vector_at : {A : Type 0} → Reader A → Reader (List A × List ℕ)
-vector_at r end bytes = do
-  n ← number_at end bytes
-  entries_at r n.0 end n.1
+vector_at r = then_at number_at (entries_at r)
 
 -- The same, where the count has a limit.
 unfoldable pub limited_at : {A : Type 0} → Reader A → ℕ → LimitWord → Reader (List A × List ℕ)
@@ -70,9 +76,7 @@ limited_at r most word end bytes = do
 
 -- A vector whose places do not matter.
 unfoldable pub list_at : {A : Type 0} → Reader A → Reader (List A)
-list_at r end bytes = do
-  x ← vector_at r end bytes
-  Ok (x.0.0, x.1)
+list_at r = then_at (vector_at r) (λ x. done_at x.0)
 
 -- So many bytes.
 unfoldable pub run_at : ℕ → Reader (List ℕ)
@@ -80,21 +84,21 @@ run_at n end bytes = if nat_lt (length bytes) n then Err (Malformed end End) els
 
 -- A count, and so many bytes.
 unfoldable pub bytes_at : Reader (List ℕ)
-bytes_at end bytes = do
-  n ← number_at end bytes
-  run_at n.0 end n.1
+bytes_at = then_at number_at run_at
 
 -- Bytes at a place that must be UTF-8.
 abbrev pub text_of : List ℕ → ℕ → Result (List ℕ) DecodeFault
 text_of bytes at = if is_utf8 bytes then Ok bytes else Err (Malformed at Utf8)
 
 -- A name: a length, and so many bytes in UTF-8.
-unfoldable pub name_at : Reader (List ℕ)
-name_at end bytes = do
-  n ← number_at end bytes
-  t ← run_at n.0 end n.1
-  name ← text_of t.0 (place end n.1)
+unfoldable pub text_at : ℕ → Reader (List ℕ)
+text_at n end bytes = do
+  t ← run_at n end bytes
+  name ← text_of t.0 (place end bytes)
   Ok (name, t.1)
+
+unfoldable pub name_at : Reader (List ℕ)
+name_at = then_at number_at text_at
 
 -- A part of the bytes that are left: its bytes, the place where it ends, and what follows it.
 unfoldable pub region_at : ℕ → List ℕ → Result (List ℕ × ℕ × List ℕ) DecodeFault
@@ -105,3 +109,11 @@ region_at end bytes = do
 -- Nothing may be left of a region, behind what was read.
 abbrev pub ended : {A : Type 0} → A → ℕ → List ℕ → Result A DecodeFault
 ended x end bytes = if length bytes == 0 then Ok x else Err (Malformed (place end bytes) Size)
+
+-- A size, and a region of that size, to its end.
+unfoldable pub sized_at : {A : Type 0} → Reader A → Reader A
+sized_at r end bytes = do
+  region ← region_at end bytes
+  x ← r region.1 region.0
+  whole ← ended x.0 region.1 x.1
+  Ok (whole, region.2)

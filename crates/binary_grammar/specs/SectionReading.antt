@@ -18,29 +18,22 @@ use Rattle.binary_grammar.specs.declared.section.Section.TheVariants as section
 use Rattle.binary_grammar.specs.declared.section.Draft.{Draft}
 use Rattle.binary_grammar.specs.declared.section.Decoded.{Decoded}
 use Rattle.binary_grammar.specs.Bounds.{Bounds}
-use Rattle.binary_grammar.specs.Reading.{◌>>=◌, Reader, place, byte_at, number_at, entries_at, vector_at, limited_at, list_at, bytes_at, name_at, region_at, ended}
+use Rattle.binary_grammar.specs.Reading.{◌>>=◌, Reader, place, then_at, done_at, byte_at, number_at, entries_at, vector_at, limited_at, list_at, bytes_at, name_at, sized_at}
 use Rattle.binary_grammar.specs.TypeReading.{func_type_at, limits_at, table_type_at, global_type_at, import_at, export_at}
 use Rattle.binary_grammar.specs.CodeReading.{instrs_at, body_at}
 
 unfoldable pub global_at : ℕ → Reader Global
-global_at nesting end bytes = do
-  t ← global_type_at end bytes
-  init ← instrs_at nesting end t.1
-  Ok (record { ty = t.0; init = init.0 }, init.1)
+global_at nesting = then_at global_type_at (λ t. then_at (instrs_at nesting) (λ init. done_at (record { ty = t; init = init })))
 
 unfoldable pub elem_at : ℕ → Reader Elem
-elem_at nesting end bytes = do
-  table ← number_at end bytes
-  offset ← instrs_at nesting end table.1
-  funcs ← list_at number_at end offset.1
-  Ok (record { table = table.0; offset = offset.0; funcs = funcs.0 }, funcs.1)
+elem_at nesting =
+    then_at number_at (λ table. then_at (instrs_at nesting) (λ offset. then_at (list_at number_at) (λ funcs.
+    done_at (record { table = table; offset = offset; funcs = funcs }))))
 
 unfoldable pub segment_at : ℕ → Reader Segment
-segment_at nesting end bytes = do
-  memory ← number_at end bytes
-  offset ← instrs_at nesting end memory.1
-  contents ← bytes_at end offset.1
-  Ok (record { memory = memory.0; offset = offset.0; bytes = contents.0 }, contents.1)
+segment_at nesting =
+    then_at number_at (λ memory. then_at (instrs_at nesting) (λ offset. then_at bytes_at (λ contents.
+    done_at (record { memory = memory; offset = offset; bytes = contents }))))
 
 -- A custom section's contents are a name and whatever follows it.
 unfoldable pub custom_at : Reader Section
@@ -54,34 +47,34 @@ bodies_at most declared end bytes = do
     else Err (Malformed (place end bytes) word.Count)
 
 unfoldable pub types_at : Bounds → Reader Section
-types_at most end bytes = limited_at (func_type_at most.params) most.types limit.Types end bytes >>= λ x. Ok (section.Types x.0.0 x.0.1, x.1)
+types_at most = then_at (limited_at (func_type_at most.params) most.types limit.Types) (λ x. done_at (section.Types x.0 x.1))
 
 unfoldable pub imports_at : Bounds → Reader Section
-imports_at most end bytes = limited_at import_at most.imports limit.Imports end bytes >>= λ x. Ok (section.Imports x.0.0 x.0.1, x.1)
+imports_at most = then_at (limited_at import_at most.imports limit.Imports) (λ x. done_at (section.Imports x.0 x.1))
 
 unfoldable pub funcs_at : Bounds → Reader Section
-funcs_at most end bytes = limited_at number_at most.functions limit.Functions end bytes >>= λ x. Ok (section.Funcs x.0.0 x.0.1, x.1)
+funcs_at most = then_at (limited_at number_at most.functions limit.Functions) (λ x. done_at (section.Funcs x.0 x.1))
 
 unfoldable pub tables_at : Reader Section
-tables_at end bytes = vector_at table_type_at end bytes >>= λ x. Ok (section.Tables x.0.0 x.0.1, x.1)
+tables_at = then_at (vector_at table_type_at) (λ x. done_at (section.Tables x.0 x.1))
 
 unfoldable pub memories_at : Reader Section
-memories_at end bytes = vector_at limits_at end bytes >>= λ x. Ok (section.Memories x.0.0 x.0.1, x.1)
+memories_at = then_at (vector_at limits_at) (λ x. done_at (section.Memories x.0 x.1))
 
 unfoldable pub globals_at : Bounds → Reader Section
-globals_at most end bytes = limited_at (global_at most.nesting) most.globals limit.Globals end bytes >>= λ x. Ok (section.Globals x.0.0 x.0.1, x.1)
+globals_at most = then_at (limited_at (global_at most.nesting) most.globals limit.Globals) (λ x. done_at (section.Globals x.0 x.1))
 
 unfoldable pub exports_at : Reader Section
-exports_at end bytes = vector_at export_at end bytes >>= λ x. Ok (section.Exports x.0.0 x.0.1, x.1)
+exports_at = then_at (vector_at export_at) (λ x. done_at (section.Exports x.0 x.1))
 
 unfoldable pub start_at : Reader Section
 start_at end bytes = number_at end bytes >>= λ x. Ok (section.Start x.0 (place end bytes), x.1)
 
 unfoldable pub elems_at : Bounds → Reader Section
-elems_at most end bytes = vector_at (elem_at most.nesting) end bytes >>= λ x. Ok (section.Elems x.0.0 x.0.1, x.1)
+elems_at most = then_at (vector_at (elem_at most.nesting)) (λ x. done_at (section.Elems x.0 x.1))
 
 unfoldable pub segments_at : Bounds → Reader Section
-segments_at most end bytes = vector_at (segment_at most.nesting) end bytes >>= λ x. Ok (section.Segments x.0.0 x.0.1, x.1)
+segments_at most = then_at (vector_at (segment_at most.nesting)) (λ x. done_at (section.Segments x.0 x.1))
 
 -- The contents of the section with an id.
 unfoldable pub contents_at : Bounds → ℕ → ℕ → Reader Section
@@ -107,12 +100,7 @@ id_at last end bytes = do
 
 -- A section: its id, its size, and its contents in a region of that size.
 unfoldable pub section_at : Bounds → ℕ → ℕ → Reader Section
-section_at most last declared end bytes = do
-  id ← id_at last end bytes
-  region ← region_at end id.1
-  contents ← contents_at most declared id.0 region.1 region.0
-  whole ← ended contents.0 region.1 contents.1
-  Ok (whole, region.2)
+section_at most last declared = then_at (id_at last) (λ id. sized_at (contents_at most declared id))
 
 -- The id of the last section with an entry, behind a section with so many entries.
 abbrev pub after_of : ℕ → ℕ → ℕ → ℕ

@@ -15,7 +15,7 @@ use Rattle.binary_grammar.specs.declared.fault.DecodeFault.{DecodeFault}
 use Rattle.binary_grammar.specs.declared.fault.DecodeFault.TheVariants.{Malformed}
 use Rattle.binary_grammar.specs.declared.fault.DecodeWord.TheVariants.{Byte, Float}
 use Rattle.binary_grammar.specs.declared.fault.LimitWord.TheVariants.{Params}
-use Rattle.binary_grammar.specs.Reading.{◌>>=◌, Reader, place, byte_at, number_at, name_at, list_at, limited_at}
+use Rattle.binary_grammar.specs.Reading.{◌>>=◌, Reader, place, then_at, done_at, byte_at, number_at, name_at, list_at, limited_at}
 
 abbrev pub value_type_of : ℕ → ℕ → Result ValType DecodeFault
 value_type_of at b =
@@ -51,41 +51,32 @@ block_type_at end bytes = do
   Ok (t, b.1)
 
 unfoldable pub func_type_at : ℕ → Reader FuncType
-func_type_at most end bytes = do
-  tag ← tag_at 0x60 end bytes
-  params ← limited_at value_type_at most Params end tag.1
-  results ← list_at value_type_at end params.1
-  Ok (record { params = params.0.0; results = results.0 }, results.1)
+func_type_at most =
+    then_at (tag_at 0x60) (λ tag. then_at (limited_at value_type_at most Params) (λ params. then_at (list_at value_type_at) (λ results.
+    done_at (record { params = params.0; results = results }))))
 
 abbrev pub greatest_at : Bool → Reader (Option ℕ)
-greatest_at false end bytes = Ok (None, bytes)
-greatest_at true end bytes = number_at end bytes >>= λ n. Ok (Some n.0, n.1)
+greatest_at false = done_at None
+greatest_at true = then_at number_at (λ n. done_at (Some n))
 
 unfoldable pub limits_at : Reader Limits
-limits_at end bytes = do
-  flag ← flag_at end bytes
-  least ← number_at end flag.1
-  greatest ← greatest_at flag.0 end least.1
-  Ok (record { min = least.0; max = greatest.0 }, greatest.1)
+limits_at =
+    then_at flag_at (λ flag. then_at number_at (λ least. then_at (greatest_at flag) (λ greatest.
+    done_at (record { min = least; max = greatest }))))
 
 unfoldable pub table_type_at : Reader Limits
-table_type_at end bytes = do
-  tag ← tag_at 0x70 end bytes
-  limits_at end tag.1
+table_type_at = then_at (tag_at 0x70) (λ tag. limits_at)
 
 unfoldable pub global_type_at : Reader GlobalType
-global_type_at end bytes = do
-  t ← value_type_at end bytes
-  flag ← flag_at end t.1
-  Ok (record { value = t.0; mutable = flag.0 }, flag.1)
+global_type_at = then_at value_type_at (λ t. then_at flag_at (λ flag. done_at (record { value = t; mutable = flag })))
 
 -- What is imported, by the byte of its kind, which stands at a place.
 unfoldable pub import_kind_of : ℕ → ℕ → Reader ImportKind
 import_kind_of at b end bytes =
-    if b == 0 then (number_at end bytes >>= λ x. Ok (import.Func x.0, x.1)) else
-    (if b == 1 then (table_type_at end bytes >>= λ x. Ok (import.Table x.0, x.1)) else
-    (if b == 2 then (limits_at end bytes >>= λ x. Ok (import.Memory x.0, x.1)) else
-    (if b == 3 then (global_type_at end bytes >>= λ x. Ok (import.Global x.0, x.1)) else Err (Malformed at Byte))))
+    if b == 0 then (then_at number_at (λ x. done_at (import.Func x)) end bytes) else
+    (if b == 1 then (then_at table_type_at (λ x. done_at (import.Table x)) end bytes) else
+    (if b == 2 then (then_at limits_at (λ x. done_at (import.Memory x)) end bytes) else
+    (if b == 3 then (then_at global_type_at (λ x. done_at (import.Global x)) end bytes) else Err (Malformed at Byte))))
 
 unfoldable pub import_kind_at : Reader ImportKind
 import_kind_at end bytes = do
@@ -93,18 +84,16 @@ import_kind_at end bytes = do
   import_kind_of (place end bytes) b.0 end b.1
 
 unfoldable pub import_at : Reader Import
-import_at end bytes = do
-  first ← name_at end bytes
-  second ← name_at end first.1
-  kind ← import_kind_at end second.1
-  Ok (record { «module» = first.0; name = second.0; kind = kind.0 }, kind.1)
+import_at =
+    then_at name_at (λ first. then_at name_at (λ second. then_at import_kind_at (λ kind.
+    done_at (record { «module» = first; name = second; kind = kind }))))
 
 unfoldable pub export_kind_of : ℕ → ℕ → Reader ExportKind
 export_kind_of at b end bytes =
-    if b == 0 then (number_at end bytes >>= λ x. Ok (export.Func x.0, x.1)) else
-    (if b == 1 then (number_at end bytes >>= λ x. Ok (export.Table x.0, x.1)) else
-    (if b == 2 then (number_at end bytes >>= λ x. Ok (export.Memory x.0, x.1)) else
-    (if b == 3 then (number_at end bytes >>= λ x. Ok (export.Global x.0, x.1)) else Err (Malformed at Byte))))
+    if b == 0 then (then_at number_at (λ x. done_at (export.Func x)) end bytes) else
+    (if b == 1 then (then_at number_at (λ x. done_at (export.Table x)) end bytes) else
+    (if b == 2 then (then_at number_at (λ x. done_at (export.Memory x)) end bytes) else
+    (if b == 3 then (then_at number_at (λ x. done_at (export.Global x)) end bytes) else Err (Malformed at Byte))))
 
 unfoldable pub export_kind_at : Reader ExportKind
 export_kind_at end bytes = do
@@ -112,7 +101,4 @@ export_kind_at end bytes = do
   export_kind_of (place end bytes) b.0 end b.1
 
 unfoldable pub export_at : Reader Export
-export_at end bytes = do
-  name ← name_at end bytes
-  kind ← export_kind_at end name.1
-  Ok (record { name = name.0; kind = kind.0 }, kind.1)
+export_at = then_at name_at (λ name. then_at export_kind_at (λ kind. done_at (record { name = name; kind = kind })))

@@ -67,7 +67,7 @@ pub(crate) fn read_expression(alloc: Global, bytes: &[u8], end: usize) -> Result
 }
 
 /// An expression whose places do not matter.
-#[tactic(auto, unfolding(binary_grammar::specs::CodeReading::instrs_at))]
+#[tactic(auto, unfolding(binary_grammar::specs::CodeReading::instrs_at, binary_grammar::specs::Reading::then_at, binary_grammar::specs::Reading::done_at))]
 pub(crate) fn read_instrs(alloc: Global, bytes: &[u8], end: usize) -> Result<(List<Instr>, &[u8]), DecodeFault>
     requires { length bytes.now ≤ MAX_ITEMS }
     ensures gives { Gives (λ x. (x.0, x.1.now)) result (instrs_at the_bounds.nesting end bytes.now) }
@@ -86,7 +86,7 @@ fn push_copies(locals: &mut List<ValType>, count: u32, ty: ValType) -> Result<()
     Ok(())
 }
 
-#[tactic(auto, unfolding(binary_grammar::specs::CodeReading::run_of_locals_at))]
+#[tactic(auto, unfolding(binary_grammar::specs::CodeReading::run_of_locals_at, binary_grammar::specs::Reading::then_at, binary_grammar::specs::Reading::done_at))]
 fn read_run_of_locals(sum: usize, bytes: &[u8], end: usize) -> Result<(u32, ValType, &[u8]), DecodeFault>
     requires { sum ≤ MAX_LOCALS }
     ensures gives { Gives (λ x. ((x.0, x.1), x.2.now)) result (run_of_locals_at the_bounds.locals sum end bytes.now) }
@@ -118,7 +118,7 @@ fn read_runs(alloc: Global, count: u32, bytes: &[u8], end: usize) -> Result<(Lis
     Ok((locals, rest))
 }
 
-#[tactic(auto, unfolding(binary_grammar::specs::CodeReading::locals_at))]
+#[tactic(auto, unfolding(binary_grammar::specs::CodeReading::locals_at, binary_grammar::specs::Reading::then_at, binary_grammar::specs::Reading::done_at))]
 fn read_locals(alloc: Global, bytes: &[u8], end: usize) -> Result<(List<ValType>, &[u8]), DecodeFault>
     ensures gives { Gives (λ x. (x.0, x.1.now)) result (locals_at the_bounds.locals end bytes.now) }
     ensures shorter { IfOk result (λ x. length x.1.now ≤ length bytes.now) }
@@ -127,7 +127,7 @@ fn read_locals(alloc: Global, bytes: &[u8], end: usize) -> Result<(List<ValType>
     read_runs(alloc, count, rest, end)
 }
 
-#[tactic(auto, unfolding(binary_grammar::specs::CodeReading::body_at))]
+#[tactic(auto, unfolding(binary_grammar::specs::CodeReading::body_at, binary_grammar::specs::CodeReading::body_contents_at, binary_grammar::specs::Reading::sized_at, binary_grammar::specs::Reading::then_at, binary_grammar::specs::Reading::done_at))]
 fn read_body(alloc: Global, bytes: &[u8], end: usize) -> Result<(Body, &[u8]), DecodeFault>
     ensures gives { Gives (λ x. (x.0, x.1.now)) result (body_at the_bounds.locals the_bounds.nesting end bytes.now) }
     ensures shorter { IfOk result (λ x. length x.1.now ≤ length bytes.now) }

@@ -183,7 +183,7 @@ fn join_funcs(alloc: Global, declared: &[u32], bodies: List<Body>) -> Result<(Li
 }
 
 /// The module behind its last section, of bytes of this length.
-#[tactic(auto, unfolding(binary_grammar::specs::SectionReading::finished_at))]
+#[tactic(auto, unfolding(binary_grammar::specs::SectionReading::finished_at, binary_grammar::specs::Reading::then_at, binary_grammar::specs::Reading::done_at))]
 fn finish(alloc: Global, draft: Draft, len: usize) -> Result<Decoded, DecodeFault>
     ensures { Gives (λ d. d) result (finished_at len draft) }
 {
@@ -205,7 +205,7 @@ fn finish(alloc: Global, draft: Draft, len: usize) -> Result<Decoded, DecodeFaul
     Ok(Decoded { module, marks })
 }
 
-#[tactic(auto, unfolding(binary_grammar::specs::SectionReading::magic_at))]
+#[tactic(auto, unfolding(binary_grammar::specs::SectionReading::magic_at, binary_grammar::specs::Reading::then_at, binary_grammar::specs::Reading::done_at))]
 fn read_magic<'a>(magic: &[u8], bytes: &'a [u8], end: usize) -> Result<&'a [u8], DecodeFault>
     ensures { Gives (λ x. x.now) result (magic_at magic.now end bytes.now) }
 {
@@ -224,7 +224,7 @@ fn read_magic<'a>(magic: &[u8], bytes: &'a [u8], end: usize) -> Result<&'a [u8],
     }
 }
 
-#[tactic(auto, unfolding(binary_grammar::specs::SectionReading::header_at))]
+#[tactic(auto, unfolding(binary_grammar::specs::SectionReading::header_at, binary_grammar::specs::Reading::then_at, binary_grammar::specs::Reading::done_at))]
 fn read_header(bytes: &[u8], end: usize) -> Result<&[u8], DecodeFault>
     ensures { Gives (λ x. x.now) result (header_at end bytes.now) }
 {
@@ -235,7 +235,7 @@ fn read_header(bytes: &[u8], end: usize) -> Result<&[u8], DecodeFault>
 }
 
 /// The module that the bytes spell, and where its entries stand; else the first fault, from the front.
-#[tactic(auto, unfolding(binary_grammar::specs::SectionReading::module_at))]
+#[tactic(auto, unfolding(binary_grammar::specs::SectionReading::module_at, binary_grammar::specs::Reading::then_at, binary_grammar::specs::Reading::done_at))]
 pub fn decode(alloc: Global, bytes: &[u8]) -> Result<Decoded, DecodeFault>
     ensures { Gives (λ d. d) result (module_at the_bounds bytes.now) }
 {

@@ -50,7 +50,7 @@ pub(crate) fn read_entries<T: Entry>(
 }
 
 /// A count, so many entries, and the place of each.
-#[tactic(auto, unfolding(binary_grammar::specs::Reading::vector_at))]
+#[tactic(auto, unfolding(binary_grammar::specs::Reading::vector_at, binary_grammar::specs::Reading::then_at, binary_grammar::specs::Reading::done_at))]
 pub(crate) fn read_vector<T: Entry>(alloc: Global, bytes: &[u8], end: usize) -> Result<(List<T>, List<usize>, &[u8]), DecodeFault>
     requires { length bytes.now ≤ MAX_ITEMS }
     ensures gives { Gives (λ x. ((x.0, x.1), x.2.now)) result (vector_at T.reads end bytes.now) }
@@ -61,7 +61,7 @@ pub(crate) fn read_vector<T: Entry>(alloc: Global, bytes: &[u8], end: usize) -> 
 }
 
 /// The same, where the count has a limit, which is tested before any entry is read.
-#[tactic(auto, unfolding(binary_grammar::specs::Reading::limited_at))]
+#[tactic(auto, unfolding(binary_grammar::specs::Reading::limited_at, binary_grammar::specs::Reading::then_at, binary_grammar::specs::Reading::done_at))]
 pub(crate) fn read_limited<T: Entry>(
     alloc: Global,
     most: u32,
@@ -84,7 +84,7 @@ pub(crate) fn read_limited<T: Entry>(
 }
 
 /// A vector whose places do not matter.
-#[tactic(auto, unfolding(binary_grammar::specs::Reading::list_at))]
+#[tactic(auto, unfolding(binary_grammar::specs::Reading::list_at, binary_grammar::specs::Reading::then_at, binary_grammar::specs::Reading::done_at))]
 pub(crate) fn read_list<T: Entry>(alloc: Global, bytes: &[u8], end: usize) -> Result<(List<T>, &[u8]), DecodeFault>
     requires { length bytes.now ≤ MAX_ITEMS }
     ensures gives { Gives (λ x. (x.0, x.1.now)) result (list_at T.reads end bytes.now) }

@@ -1,5 +1,5 @@
-ghost use Rattle.std.specs.Prelude.{◌≡◌, ℕ, ◌+◌, ◌-◌, ◌*◌, ◌^◌, ◌<◌, ◌≤◌, List, length, IfOk};
-ghost use Rattle.binary_grammar.specs.Numbers.{twos_complement};
+ghost use Rattle.std.specs.Prelude.{◌≡◌, ℕ, ◌+◌, ◌-◌, ◌*◌, ◌^◌, ◌<◌, ◌≤◌, List, ◌++◌, length, IfOk, Ok, Err, ℤ, slice_range};
+ghost use Rattle.binary_grammar.specs.Numbers.{twos_complement, SpellsU32, SpellsS32, SpellsS64, EndsInside, ReadsNumber};
 ghost use Rattle.binary_grammar.specs.NumberReading.{GivesNumber, digits_at, u32_at, s32_at, s64_at};
 
 use binary_grammar::LebFault;
@@ -115,4 +115,46 @@ pub(crate) fn take_s64(bytes: &[u8]) -> Result<(i64, &[u8]), LebFault>
     } else {
         Err(LebFault::Number)
     }
+}
+
+/// Reads an unsigned number of 32 bits that begins at `from`, of the bytes before `to`, and the place behind it.
+pub fn read_u32(bytes: &[u8], from: usize, to: usize) -> Result<(u32, usize), LebFault>
+    requires ordered { from ≤ to }
+    requires within { to ≤ length bytes.now }
+    // What is read is spelled so; else the bytes end inside a number, or no front of them spells one.
+    ensures reads { ReadsNumber SpellsU32 5 (slice_range bytes.now from to) from result }
+    // What a front spells is read.
+    ensures spelled { (front rest : List ℕ) (x : ℕ) → slice_range bytes.now from to ≡ front ++ rest → SpellsU32 front x → result ≡ Ok (x, from + length front) }
+    ensures ends { EndsInside 5 (slice_range bytes.now from to) → result ≡ Err LebFault.End }
+{
+    let (value, rest) = take_u32(&bytes[from..to])?;
+    Ok((value, to - rest.len()))
+}
+
+/// Reads a signed number of 32 bits that begins at `from`, of the bytes before `to`, and the place behind it.
+pub fn read_s32(bytes: &[u8], from: usize, to: usize) -> Result<(i32, usize), LebFault>
+    requires ordered { from ≤ to }
+    requires within { to ≤ length bytes.now }
+    // What is read is spelled so; else the bytes end inside a number, or no front of them spells one.
+    ensures reads { ReadsNumber SpellsS32 5 (slice_range bytes.now from to) from result }
+    // What a front spells is read.
+    ensures spelled { (front rest : List ℕ) (x : ℤ) → slice_range bytes.now from to ≡ front ++ rest → SpellsS32 front x → result ≡ Ok (x, from + length front) }
+    ensures ends { EndsInside 5 (slice_range bytes.now from to) → result ≡ Err LebFault.End }
+{
+    let (value, rest) = take_s32(&bytes[from..to])?;
+    Ok((value, to - rest.len()))
+}
+
+/// Reads a signed number of 64 bits that begins at `from`, of the bytes before `to`, and the place behind it.
+pub fn read_s64(bytes: &[u8], from: usize, to: usize) -> Result<(i64, usize), LebFault>
+    requires ordered { from ≤ to }
+    requires within { to ≤ length bytes.now }
+    // What is read is spelled so; else the bytes end inside a number, or no front of them spells one.
+    ensures reads { ReadsNumber SpellsS64 10 (slice_range bytes.now from to) from result }
+    // What a front spells is read.
+    ensures spelled { (front rest : List ℕ) (x : ℤ) → slice_range bytes.now from to ≡ front ++ rest → SpellsS64 front x → result ≡ Ok (x, from + length front) }
+    ensures ends { EndsInside 10 (slice_range bytes.now from to) → result ≡ Err LebFault.End }
+{
+    let (value, rest) = take_s64(&bytes[from..to])?;
+    Ok((value, to - rest.len()))
 }

@@ -12,3 +12,4 @@ mod types;
 
 pub use binary_grammar::{DecodeFault, DecodeWord, Decoded, LebFault, LimitWord};
 pub use decoder::decode;
+pub use leb::{read_s32, read_s64, read_u32};

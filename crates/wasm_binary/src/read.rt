@@ -31,7 +31,7 @@ pub(crate) fn number_fault(fault: LebFault, at: usize, end: usize) -> DecodeFaul
     }
 }
 
-#[tactic(auto, unfolding(binary_grammar::specs::Reading::number_at))]
+#[tactic(auto, unfolding(binary_grammar::specs::Reading::number_at, binary_grammar::specs::Reading::then_at, binary_grammar::specs::Reading::done_at))]
 pub(crate) fn read_number(bytes: &[u8], end: usize) -> Result<(u32, &[u8]), DecodeFault>
     ensures gives { Gives (λ x. (x.0, x.1.now)) result (number_at end bytes.now) }
     ensures shorter { IfOk result (λ x. length x.1.now ≤ length bytes.now) }
@@ -42,7 +42,7 @@ pub(crate) fn read_number(bytes: &[u8], end: usize) -> Result<(u32, &[u8]), Deco
     }
 }
 
-#[tactic(auto, unfolding(binary_grammar::specs::Reading::byte_at))]
+#[tactic(auto, unfolding(binary_grammar::specs::Reading::byte_at, binary_grammar::specs::Reading::then_at, binary_grammar::specs::Reading::done_at))]
 pub(crate) fn read_byte(bytes: &[u8], end: usize) -> Result<(u8, &[u8]), DecodeFault>
     ensures gives { Gives (λ x. (x.0, x.1.now)) result (byte_at end bytes.now) }
     ensures shorter { IfOk result (λ x. length x.1.now ≤ length bytes.now) }
@@ -53,7 +53,7 @@ pub(crate) fn read_byte(bytes: &[u8], end: usize) -> Result<(u8, &[u8]), DecodeF
     }
 }
 
-#[tactic(auto, unfolding(binary_grammar::specs::Reading::run_at))]
+#[tactic(auto, unfolding(binary_grammar::specs::Reading::run_at, binary_grammar::specs::Reading::then_at, binary_grammar::specs::Reading::done_at))]
 fn read_run(count: u32, bytes: &[u8], end: usize) -> Result<(&[u8], &[u8]), DecodeFault>
     ensures gives { Gives (λ x. (x.0.now, x.1.now)) result (run_at count end bytes.now) }
     ensures shorter { IfOk result (λ x. length x.1.now ≤ length bytes.now) }
@@ -75,7 +75,7 @@ pub(crate) fn own_bytes(alloc: Global, bytes: &[u8]) -> Result<Bytes, DecodeFaul
     }
 }
 
-#[tactic(auto, unfolding(binary_grammar::specs::Reading::bytes_at))]
+#[tactic(auto, unfolding(binary_grammar::specs::Reading::bytes_at, binary_grammar::specs::Reading::then_at, binary_grammar::specs::Reading::done_at))]
 pub(crate) fn read_bytes(alloc: Global, bytes: &[u8], end: usize) -> Result<(Bytes, &[u8]), DecodeFault>
     ensures gives { Gives (λ x. (x.0, x.1.now)) result (bytes_at end bytes.now) }
     ensures shorter { IfOk result (λ x. length x.1.now ≤ length bytes.now) }
@@ -95,7 +95,7 @@ fn text_of(alloc: Global, bytes: &[u8], at: usize) -> Result<Text, DecodeFault>
     }
 }
 
-#[tactic(auto, unfolding(binary_grammar::specs::Reading::name_at))]
+#[tactic(auto, unfolding(binary_grammar::specs::Reading::name_at, binary_grammar::specs::Reading::text_at, binary_grammar::specs::Reading::then_at, binary_grammar::specs::Reading::done_at))]
 pub(crate) fn read_name(alloc: Global, bytes: &[u8], end: usize) -> Result<(Text, &[u8]), DecodeFault>
     ensures gives { Gives (λ x. (x.0, x.1.now)) result (name_at end bytes.now) }
     ensures shorter { IfOk result (λ x. length x.1.now ≤ length bytes.now) }
@@ -107,7 +107,7 @@ pub(crate) fn read_name(alloc: Global, bytes: &[u8], end: usize) -> Result<(Text
 }
 
 /// The bytes of a region, the place where it ends, and what follows it.
-#[tactic(auto, unfolding(binary_grammar::specs::Reading::region_at))]
+#[tactic(auto, unfolding(binary_grammar::specs::Reading::region_at, binary_grammar::specs::Reading::then_at, binary_grammar::specs::Reading::done_at))]
 pub(crate) fn read_region(bytes: &[u8], end: usize) -> Result<(&[u8], usize, &[u8]), DecodeFault>
     ensures gives { Gives (λ x. (x.0.now, x.1, x.2.now)) result (region_at end bytes.now) }
     ensures shorter { IfOk result (λ x. length x.2.now ≤ length bytes.now) }

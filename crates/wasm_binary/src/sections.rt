@@ -23,7 +23,7 @@ impl Entry for Limits {
     }
 }
 
-#[tactic(auto, unfolding(binary_grammar::specs::SectionReading::global_at))]
+#[tactic(auto, unfolding(binary_grammar::specs::SectionReading::global_at, binary_grammar::specs::Reading::then_at, binary_grammar::specs::Reading::done_at))]
 fn read_global(alloc: Global, bytes: &[u8], end: usize) -> Result<(wasm_syntax::Global, &[u8]), DecodeFault>
     requires { length bytes.now ≤ MAX_ITEMS }
     ensures gives { Gives (λ x. (x.0, x.1.now)) result (global_at the_bounds.nesting end bytes.now) }
@@ -42,7 +42,7 @@ impl Entry for wasm_syntax::Global {
     }
 }
 
-#[tactic(auto, unfolding(binary_grammar::specs::SectionReading::elem_at))]
+#[tactic(auto, unfolding(binary_grammar::specs::SectionReading::elem_at, binary_grammar::specs::Reading::then_at, binary_grammar::specs::Reading::done_at))]
 fn read_elem(alloc: Global, bytes: &[u8], end: usize) -> Result<(Elem, &[u8]), DecodeFault>
     requires { length bytes.now ≤ MAX_ITEMS }
     ensures gives { Gives (λ x. (x.0, x.1.now)) result (elem_at the_bounds.nesting end bytes.now) }
@@ -69,7 +69,7 @@ impl Entry for Elem {
     }
 }
 
-#[tactic(auto, unfolding(binary_grammar::specs::SectionReading::segment_at))]
+#[tactic(auto, unfolding(binary_grammar::specs::SectionReading::segment_at, binary_grammar::specs::Reading::then_at, binary_grammar::specs::Reading::done_at))]
 fn read_segment(alloc: Global, bytes: &[u8], end: usize) -> Result<(Segment, &[u8]), DecodeFault>
     requires { length bytes.now ≤ MAX_ITEMS }
     ensures gives { Gives (λ x. (x.0, x.1.now)) result (segment_at the_bounds.nesting end bytes.now) }
@@ -96,7 +96,7 @@ impl Entry for Segment {
     }
 }
 
-#[tactic(auto, unfolding(binary_grammar::specs::SectionReading::custom_at))]
+#[tactic(auto, unfolding(binary_grammar::specs::SectionReading::custom_at, binary_grammar::specs::Reading::then_at, binary_grammar::specs::Reading::done_at))]
 fn read_custom(alloc: Global, bytes: &[u8], end: usize) -> Result<Section, DecodeFault>
     ensures { Gives (λ s. (s, [])) result (custom_at end bytes.now) }
 {
@@ -104,7 +104,7 @@ fn read_custom(alloc: Global, bytes: &[u8], end: usize) -> Result<Section, Decod
     Ok(Section::Custom(name, own_bytes(alloc, rest)?))
 }
 
-#[tactic(auto, unfolding(binary_grammar::specs::SectionReading::start_at))]
+#[tactic(auto, unfolding(binary_grammar::specs::SectionReading::start_at, binary_grammar::specs::Reading::then_at, binary_grammar::specs::Reading::done_at))]
 fn read_start(bytes: &[u8], end: usize) -> Result<(Section, &[u8]), DecodeFault>
     ensures { Gives (λ x. (x.0, x.1.now)) result (start_at end bytes.now) }
 {
@@ -128,7 +128,7 @@ fn read_table_types(alloc: Global, count: u32, bytes: &[u8], end: usize) -> Resu
     Ok((entries, places, rest))
 }
 
-#[tactic(auto, unfolding(binary_grammar::specs::SectionReading::tables_at, binary_grammar::specs::Reading::vector_at))]
+#[tactic(auto, unfolding(binary_grammar::specs::SectionReading::tables_at, binary_grammar::specs::Reading::vector_at, binary_grammar::specs::Reading::then_at, binary_grammar::specs::Reading::done_at))]
 fn read_tables(alloc: Global, bytes: &[u8], end: usize) -> Result<(Section, &[u8]), DecodeFault>
     ensures { Gives (λ x. (x.0, x.1.now)) result (tables_at end bytes.now) }
 {
@@ -137,7 +137,7 @@ fn read_tables(alloc: Global, bytes: &[u8], end: usize) -> Result<(Section, &[u8
     Ok((Section::Tables(entries, places), rest))
 }
 
-#[tactic(auto, unfolding(binary_grammar::specs::SectionReading::types_at))]
+#[tactic(auto, unfolding(binary_grammar::specs::SectionReading::types_at, binary_grammar::specs::Reading::then_at, binary_grammar::specs::Reading::done_at))]
 fn read_types(alloc: Global, bytes: &[u8], end: usize) -> Result<(Section, &[u8]), DecodeFault>
     requires { length bytes.now ≤ MAX_ITEMS }
     ensures { Gives (λ x. (x.0, x.1.now)) result (types_at the_bounds end bytes.now) }
@@ -146,7 +146,7 @@ fn read_types(alloc: Global, bytes: &[u8], end: usize) -> Result<(Section, &[u8]
     Ok((Section::Types(entries, places), rest))
 }
 
-#[tactic(auto, unfolding(binary_grammar::specs::SectionReading::imports_at))]
+#[tactic(auto, unfolding(binary_grammar::specs::SectionReading::imports_at, binary_grammar::specs::Reading::then_at, binary_grammar::specs::Reading::done_at))]
 fn read_imports(alloc: Global, bytes: &[u8], end: usize) -> Result<(Section, &[u8]), DecodeFault>
     requires { length bytes.now ≤ MAX_ITEMS }
     ensures { Gives (λ x. (x.0, x.1.now)) result (imports_at the_bounds end bytes.now) }
@@ -155,7 +155,7 @@ fn read_imports(alloc: Global, bytes: &[u8], end: usize) -> Result<(Section, &[u
     Ok((Section::Imports(entries, places), rest))
 }
 
-#[tactic(auto, unfolding(binary_grammar::specs::SectionReading::funcs_at))]
+#[tactic(auto, unfolding(binary_grammar::specs::SectionReading::funcs_at, binary_grammar::specs::Reading::then_at, binary_grammar::specs::Reading::done_at))]
 fn read_funcs(alloc: Global, bytes: &[u8], end: usize) -> Result<(Section, &[u8]), DecodeFault>
     requires { length bytes.now ≤ MAX_ITEMS }
     ensures { Gives (λ x. (x.0, x.1.now)) result (funcs_at the_bounds end bytes.now) }
@@ -164,7 +164,7 @@ fn read_funcs(alloc: Global, bytes: &[u8], end: usize) -> Result<(Section, &[u8]
     Ok((Section::Funcs(entries, places), rest))
 }
 
-#[tactic(auto, unfolding(binary_grammar::specs::SectionReading::memories_at))]
+#[tactic(auto, unfolding(binary_grammar::specs::SectionReading::memories_at, binary_grammar::specs::Reading::then_at, binary_grammar::specs::Reading::done_at))]
 fn read_memories(alloc: Global, bytes: &[u8], end: usize) -> Result<(Section, &[u8]), DecodeFault>
     requires { length bytes.now ≤ MAX_ITEMS }
     ensures { Gives (λ x. (x.0, x.1.now)) result (memories_at end bytes.now) }
@@ -173,7 +173,7 @@ fn read_memories(alloc: Global, bytes: &[u8], end: usize) -> Result<(Section, &[
     Ok((Section::Memories(entries, places), rest))
 }
 
-#[tactic(auto, unfolding(binary_grammar::specs::SectionReading::globals_at))]
+#[tactic(auto, unfolding(binary_grammar::specs::SectionReading::globals_at, binary_grammar::specs::Reading::then_at, binary_grammar::specs::Reading::done_at))]
 fn read_globals(alloc: Global, bytes: &[u8], end: usize) -> Result<(Section, &[u8]), DecodeFault>
     requires { length bytes.now ≤ MAX_ITEMS }
     ensures { Gives (λ x. (x.0, x.1.now)) result (globals_at the_bounds end bytes.now) }
@@ -182,7 +182,7 @@ fn read_globals(alloc: Global, bytes: &[u8], end: usize) -> Result<(Section, &[u
     Ok((Section::Globals(entries, places), rest))
 }
 
-#[tactic(auto, unfolding(binary_grammar::specs::SectionReading::exports_at))]
+#[tactic(auto, unfolding(binary_grammar::specs::SectionReading::exports_at, binary_grammar::specs::Reading::then_at, binary_grammar::specs::Reading::done_at))]
 fn read_exports(alloc: Global, bytes: &[u8], end: usize) -> Result<(Section, &[u8]), DecodeFault>
     requires { length bytes.now ≤ MAX_ITEMS }
     ensures { Gives (λ x. (x.0, x.1.now)) result (exports_at end bytes.now) }
@@ -191,7 +191,7 @@ fn read_exports(alloc: Global, bytes: &[u8], end: usize) -> Result<(Section, &[u
     Ok((Section::Exports(entries, places), rest))
 }
 
-#[tactic(auto, unfolding(binary_grammar::specs::SectionReading::elems_at))]
+#[tactic(auto, unfolding(binary_grammar::specs::SectionReading::elems_at, binary_grammar::specs::Reading::then_at, binary_grammar::specs::Reading::done_at))]
 fn read_elems(alloc: Global, bytes: &[u8], end: usize) -> Result<(Section, &[u8]), DecodeFault>
     requires { length bytes.now ≤ MAX_ITEMS }
     ensures { Gives (λ x. (x.0, x.1.now)) result (elems_at the_bounds end bytes.now) }
@@ -200,7 +200,7 @@ fn read_elems(alloc: Global, bytes: &[u8], end: usize) -> Result<(Section, &[u8]
     Ok((Section::Elems(entries, places), rest))
 }
 
-#[tactic(auto, unfolding(binary_grammar::specs::SectionReading::segments_at))]
+#[tactic(auto, unfolding(binary_grammar::specs::SectionReading::segments_at, binary_grammar::specs::Reading::then_at, binary_grammar::specs::Reading::done_at))]
 fn read_segments(alloc: Global, bytes: &[u8], end: usize) -> Result<(Section, &[u8]), DecodeFault>
     requires { length bytes.now ≤ MAX_ITEMS }
     ensures { Gives (λ x. (x.0, x.1.now)) result (segments_at the_bounds end bytes.now) }
@@ -209,7 +209,7 @@ fn read_segments(alloc: Global, bytes: &[u8], end: usize) -> Result<(Section, &[
     Ok((Section::Segments(entries, places), rest))
 }
 
-#[tactic(auto, unfolding(binary_grammar::specs::SectionReading::bodies_at))]
+#[tactic(auto, unfolding(binary_grammar::specs::SectionReading::bodies_at, binary_grammar::specs::Reading::then_at, binary_grammar::specs::Reading::done_at))]
 fn read_bodies(alloc: Global, declared: usize, bytes: &[u8], end: usize) -> Result<(Section, &[u8]), DecodeFault>
     requires { length bytes.now ≤ MAX_ITEMS }
     ensures { Gives (λ x. (x.0, x.1.now)) result (bodies_at the_bounds declared end bytes.now) }
@@ -223,7 +223,7 @@ fn read_bodies(alloc: Global, declared: usize, bytes: &[u8], end: usize) -> Resu
 }
 
 /// The contents of the section with an id.
-#[tactic(auto, unfolding(binary_grammar::specs::SectionReading::contents_at))]
+#[tactic(auto, unfolding(binary_grammar::specs::SectionReading::contents_at, binary_grammar::specs::Reading::then_at, binary_grammar::specs::Reading::done_at))]
 fn read_contents(
     alloc: Global,
     declared: usize,
@@ -250,7 +250,7 @@ fn read_contents(
     }
 }
 
-#[tactic(auto, unfolding(binary_grammar::specs::SectionReading::id_at))]
+#[tactic(auto, unfolding(binary_grammar::specs::SectionReading::id_at, binary_grammar::specs::Reading::then_at, binary_grammar::specs::Reading::done_at))]
 fn read_id(last: u8, bytes: &[u8], end: usize) -> Result<(u8, &[u8]), DecodeFault>
     ensures { Gives (λ x. (x.0, x.1.now)) result (id_at last end bytes.now) }
 {
@@ -266,7 +266,7 @@ fn read_id(last: u8, bytes: &[u8], end: usize) -> Result<(u8, &[u8]), DecodeFaul
 
 /// A section, behind sections of which the last that is not custom has the id `last`, and where so many functions are
 /// declared.
-#[tactic(auto, unfolding(binary_grammar::specs::SectionReading::section_at))]
+#[tactic(auto, unfolding(binary_grammar::specs::SectionReading::section_at, binary_grammar::specs::Reading::sized_at, binary_grammar::specs::Reading::then_at, binary_grammar::specs::Reading::done_at))]
 pub(crate) fn read_section(
     alloc: Global,
     last: u8,
