@@ -8,7 +8,7 @@ use Rattle.std.proofs.lemmas.List.{length-append}
 use Rattle.binary_grammar.specs.declared.fault.LebFault.{LebFault}
 use Rattle.binary_grammar.specs.declared.fault.LebFault.TheVariants.{End, Number}
 use Rattle.binary_grammar.specs.Numbers.{AreDigits, AreOpen, EndsInside, IsFound, NoneFound, ReadsNumber, base_128, twos_complement, SpellsU32, SpellsSigned, SpellsS32, SpellsS64}
-use Rattle.binary_grammar.specs.NumberReading.{further, digits_at, small, then_small, u32_at, is_within, signed, then_signed, s32_at, s64_at}
+use Rattle.binary_grammar.specs.NumberReading.{further, digits_at, small, then_small, u32_at, is_within, signed, then_signed, s32_at, s64_at, placed}
 
 pub chosen : {A : Type 0} (b : Bool) (x y z : A) → cond b x y ≡ z → ((b ≡ true) × (x ≡ z)) ⊎ ((b ≡ false) × (y ≡ z))
 chosen true x y z e = inl (refl, e)
@@ -296,3 +296,23 @@ missed {A} r Spells most reads text from Number e =
 pub spelled : {A : Type 0} (r : List ℕ → Result (A × List ℕ) LebFault) (Spells : List ℕ → A → Type 0) (most : ℕ) → IsReader r Spells most →
     (text front rest : List ℕ) (x : A) → text ≡ front ++ rest → Spells front x → r text ≡ Ok (x, rest)
 spelled r Spells most reads text front rest x p s = ap r p ∙ reads.again front rest x s
+
+-- ---- answers with places
+
+by_case : {A : Type 0} (r : List ℕ → Result (A × List ℕ) LebFault) (Spells : List ℕ → A → Type 0) (most : ℕ) → IsReader r Spells most →
+    (text : List ℕ) (from to : ℕ) (v : Result (A × List ℕ) LebFault) → from ≤ to → length text ≡ to - from → r text ≡ v → ReadsNumber Spells most text from (placed to v)
+by_case r Spells most reads text from to (Ok x) le len e = found r Spells most reads text from to x.0 x.1 le len e
+by_case r Spells most reads text from to (Err f) le len e = missed r Spells most reads text from f e
+
+pub reads_placed : {A : Type 0} (r : List ℕ → Result (A × List ℕ) LebFault) (Spells : List ℕ → A → Type 0) (most : ℕ) → IsReader r Spells most →
+    (text : List ℕ) (from to : ℕ) → from ≤ to → length text ≡ to - from → ReadsNumber Spells most text from (placed to (r text))
+reads_placed r Spells most reads text from to le len = by_case r Spells most reads text from to (r text) le len refl
+
+pub spelled_placed : {A : Type 0} (r : List ℕ → Result (A × List ℕ) LebFault) (Spells : List ℕ → A → Type 0) (most : ℕ) → IsReader r Spells most →
+    (text : List ℕ) (from to : ℕ) → from ≤ to → length text ≡ to - from → (front rest : List ℕ) (x : A) → text ≡ front ++ rest → Spells front x → placed to (r text) ≡ Ok (x, from + length front)
+spelled_placed r Spells most reads text from to le len front rest x p s =
+    ap (placed to) (spelled r Spells most reads text front rest x p s) ∙ ap (λ n. Ok (x, n)) (behind front rest from to (length text) len le (ap length p))
+
+pub ends_placed : {A : Type 0} (r : List ℕ → Result (A × List ℕ) LebFault) (Spells : List ℕ → A → Type 0) (most : ℕ) → IsReader r Spells most →
+    (text : List ℕ) (to : ℕ) → EndsInside most text → placed to (r text) ≡ Err End
+ends_placed r Spells most reads text to h = ap (placed to) (reads.ends text h)

@@ -5,3 +5,4 @@ pub mod Reading
 pub mod TypeReading
 pub mod CodeReading
 pub mod SectionReading
+pub mod Grammar

@@ -1,5 +1,5 @@
 -- Reading a number from the front of a list, with the first fault that is met.
-use Rattle.std.specs.Prelude.{◌≡◌, ℕ, zero, suc, ◌+◌, ◌-◌, ◌*◌, ◌%◌, ◌^◌, nat_lt, if◌then◌else◌, Bool, List, [], ◌∷◌, Result, Ok, Err, ℤ, pos, negsuc}
+use Rattle.std.specs.Prelude.{◌≡◌, ℕ, zero, suc, ◌+◌, ◌-◌, ◌*◌, ◌%◌, ◌^◌, nat_lt, if◌then◌else◌, Bool, List, [], ◌∷◌, length, Result, Ok, Err, ℤ, pos, negsuc}
 use Rattle.std.specs.Int.{Width, w32, w64}
 use Rattle.binary_grammar.specs.declared.fault.LebFault.{LebFault}
 use Rattle.binary_grammar.specs.declared.fault.LebFault.TheVariants.{End, Number}
@@ -49,3 +49,8 @@ s32_at bytes = then_signed 31 (digits_at 5 bytes)
 
 unfoldable pub s64_at : List ℕ → Result (ℤ × List ℕ) LebFault
 s64_at bytes = then_signed 63 (digits_at 10 bytes)
+
+-- The place behind what was read, of bytes before a place.
+abbrev pub placed : {A : Type 0} → ℕ → Result (A × List ℕ) LebFault → Result (A × ℕ) LebFault
+placed to (Ok x) = Ok (x.0, to - length x.1)
+placed to (Err e) = Err e

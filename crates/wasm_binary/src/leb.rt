@@ -1,6 +1,6 @@
 ghost use Rattle.std.specs.Prelude.{◌≡◌, ℕ, ◌+◌, ◌-◌, ◌*◌, ◌^◌, ◌<◌, ◌≤◌, List, ◌++◌, length, IfOk, Ok, Err, ℤ, slice_range};
 ghost use Rattle.binary_grammar.specs.Numbers.{twos_complement, SpellsU32, SpellsS32, SpellsS64, EndsInside, ReadsNumber};
-ghost use Rattle.binary_grammar.specs.NumberReading.{GivesNumber, digits_at, u32_at, s32_at, s64_at};
+ghost use Rattle.binary_grammar.specs.NumberReading.{GivesNumber, placed, digits_at, u32_at, s32_at, s64_at};
 
 use binary_grammar::LebFault;
 
@@ -117,6 +117,17 @@ pub(crate) fn take_s64(bytes: &[u8]) -> Result<(i64, &[u8]), LebFault>
     }
 }
 
+fn u32_between(bytes: &[u8], from: usize, to: usize) -> Result<(u32, usize), LebFault>
+    requires ordered { from ≤ to }
+    requires within { to ≤ length bytes.now }
+    ensures { result ≡ placed to (u32_at (slice_range bytes.now from to)) }
+{
+    match take_u32(&bytes[from..to]) {
+        Ok((value, rest)) => Ok((value, to - rest.len())),
+        Err(fault) => Err(fault),
+    }
+}
+
 /// Reads an unsigned number of 32 bits that begins at `from`, of the bytes before `to`, and the place behind it.
 pub fn read_u32(bytes: &[u8], from: usize, to: usize) -> Result<(u32, usize), LebFault>
     requires ordered { from ≤ to }
@@ -127,8 +138,18 @@ pub fn read_u32(bytes: &[u8], from: usize, to: usize) -> Result<(u32, usize), Le
     ensures spelled { (front rest : List ℕ) (x : ℕ) → slice_range bytes.now from to ≡ front ++ rest → SpellsU32 front x → result ≡ Ok (x, from + length front) }
     ensures ends { EndsInside 5 (slice_range bytes.now from to) → result ≡ Err LebFault.End }
 {
-    let (value, rest) = take_u32(&bytes[from..to])?;
-    Ok((value, to - rest.len()))
+    u32_between(bytes, from, to)
+}
+
+fn s32_between(bytes: &[u8], from: usize, to: usize) -> Result<(i32, usize), LebFault>
+    requires ordered { from ≤ to }
+    requires within { to ≤ length bytes.now }
+    ensures { result ≡ placed to (s32_at (slice_range bytes.now from to)) }
+{
+    match take_s32(&bytes[from..to]) {
+        Ok((value, rest)) => Ok((value, to - rest.len())),
+        Err(fault) => Err(fault),
+    }
 }
 
 /// Reads a signed number of 32 bits that begins at `from`, of the bytes before `to`, and the place behind it.
@@ -141,8 +162,18 @@ pub fn read_s32(bytes: &[u8], from: usize, to: usize) -> Result<(i32, usize), Le
     ensures spelled { (front rest : List ℕ) (x : ℤ) → slice_range bytes.now from to ≡ front ++ rest → SpellsS32 front x → result ≡ Ok (x, from + length front) }
     ensures ends { EndsInside 5 (slice_range bytes.now from to) → result ≡ Err LebFault.End }
 {
-    let (value, rest) = take_s32(&bytes[from..to])?;
-    Ok((value, to - rest.len()))
+    s32_between(bytes, from, to)
+}
+
+fn s64_between(bytes: &[u8], from: usize, to: usize) -> Result<(i64, usize), LebFault>
+    requires ordered { from ≤ to }
+    requires within { to ≤ length bytes.now }
+    ensures { result ≡ placed to (s64_at (slice_range bytes.now from to)) }
+{
+    match take_s64(&bytes[from..to]) {
+        Ok((value, rest)) => Ok((value, to - rest.len())),
+        Err(fault) => Err(fault),
+    }
 }
 
 /// Reads a signed number of 64 bits that begins at `from`, of the bytes before `to`, and the place behind it.
@@ -155,6 +186,5 @@ pub fn read_s64(bytes: &[u8], from: usize, to: usize) -> Result<(i64, usize), Le
     ensures spelled { (front rest : List ℕ) (x : ℤ) → slice_range bytes.now from to ≡ front ++ rest → SpellsS64 front x → result ≡ Ok (x, from + length front) }
     ensures ends { EndsInside 10 (slice_range bytes.now from to) → result ≡ Err LebFault.End }
 {
-    let (value, rest) = take_s64(&bytes[from..to])?;
-    Ok((value, to - rest.len()))
+    s64_between(bytes, from, to)
 }
