@@ -22,7 +22,7 @@ use Rattle.binary_grammar.specs.declared.fault.DecodeWord.TheVariants as word
 use Rattle.binary_grammar.specs.declared.fault.LimitWord.TheVariants.{Nesting, Locals}
 use Rattle.binary_grammar.specs.declared.section.Body.{Body}
 use Rattle.binary_grammar.specs.NumberReading.{s32_at, s64_at}
-use Rattle.binary_grammar.specs.Reading.{◌>>=◌, Reader, place, then_at, done_at, of_number, byte_at, number_at, list_at, sized_at}
+use Rattle.binary_grammar.specs.Reading.{◌>>=◌, Reader, place, then_at, done_at, tagged_at, of_number, number_at, list_at, sized_at}
 use Rattle.binary_grammar.specs.Bounds.{copies}
 use Rattle.binary_grammar.specs.TypeReading.{tag_at, value_type_at, block_type_at}
 
@@ -100,9 +100,7 @@ kind_at turn full at kind.Float end bytes = Err (Malformed at word.Float)
 kind_at turn full at kind.Unused end bytes = Err (Malformed at word.Byte)
 
 unfoldable pub item_at : Bool → Bool → Reader Flat
-item_at turn full end bytes = do
-  b ← byte_at end bytes
-  kind_at turn full (place end bytes) (kind_of b.0) end b.1
+item_at turn full = tagged_at (λ at b. kind_at turn full at (kind_of b))
 
 -- Whether an item fits an expression: one instruction is no block, and an `else` may come.
 abbrev pub FitsIn : Bool → Flat → Type 0

@@ -30,6 +30,10 @@ Done x at text y = (text ≡ []) × (y ≡ x)
 unfoldable pub TheByte : ℕ → Spelling ℕ
 TheByte b at text x = (text ≡ b ∷ []) × (x ≡ b)
 
+-- A byte, and what it lets follow.
+unfoldable pub Tagged : {A : Type 0} → (ℕ → Spelling A) → Spelling A
+Tagged K at text x = (b : ℕ) × (rest : List ℕ) × (text ≡ b ∷ rest) × K b (at + 1) rest x
+
 -- A u32 (5.2.2).
 unfoldable pub SpellsNumber : Spelling ℕ
 SpellsNumber at text n = SpellsU32 text n
@@ -110,11 +114,20 @@ unfoldable pub SpellsGlobalType : Spelling GlobalType
 SpellsGlobalType = Then SpellsValueType (λ t. Then SpellsFlag (λ flag. Done (record { value = t; mutable = flag })))
 
 -- What is imported: its kind's byte, and its description (5.5.5).
+abbrev pub import_tag : ImportKind → ℕ
+import_tag (import.Func n) = 0
+import_tag (import.Table l) = 1
+import_tag (import.Memory l) = 2
+import_tag (import.Global g) = 3
+
+abbrev pub SpellsImported : Spelling ImportKind
+SpellsImported at text (import.Func n) = SpellsNumber at text n
+SpellsImported at text (import.Table l) = SpellsTableType at text l
+SpellsImported at text (import.Memory l) = SpellsLimits at text l
+SpellsImported at text (import.Global g) = SpellsGlobalType at text g
+
 unfoldable pub SpellsImportKind : Spelling ImportKind
-SpellsImportKind at text (import.Func n) = Then (TheByte 0) (λ tag. SpellsNumber) at text n
-SpellsImportKind at text (import.Table l) = Then (TheByte 1) (λ tag. SpellsTableType) at text l
-SpellsImportKind at text (import.Memory l) = Then (TheByte 2) (λ tag. SpellsLimits) at text l
-SpellsImportKind at text (import.Global g) = Then (TheByte 3) (λ tag. SpellsGlobalType) at text g
+SpellsImportKind = Tagged (λ b at text k. (b ≡ import_tag k) × SpellsImported at text k)
 
 -- An import (5.5.5).
 unfoldable pub SpellsImport : Spelling Import
@@ -123,11 +136,20 @@ SpellsImport =
     Done (record { «module» = first; name = second; kind = kind }))))
 
 -- What is exported: its kind's byte, and its index (5.5.10).
+abbrev pub export_tag : ExportKind → ℕ
+export_tag (export.Func n) = 0
+export_tag (export.Table n) = 1
+export_tag (export.Memory n) = 2
+export_tag (export.Global n) = 3
+
+abbrev pub export_index : ExportKind → ℕ
+export_index (export.Func n) = n
+export_index (export.Table n) = n
+export_index (export.Memory n) = n
+export_index (export.Global n) = n
+
 unfoldable pub SpellsExportKind : Spelling ExportKind
-SpellsExportKind at text (export.Func n) = Then (TheByte 0) (λ tag. SpellsNumber) at text n
-SpellsExportKind at text (export.Table n) = Then (TheByte 1) (λ tag. SpellsNumber) at text n
-SpellsExportKind at text (export.Memory n) = Then (TheByte 2) (λ tag. SpellsNumber) at text n
-SpellsExportKind at text (export.Global n) = Then (TheByte 3) (λ tag. SpellsNumber) at text n
+SpellsExportKind = Tagged (λ b at text k. (b ≡ export_tag k) × SpellsNumber at text (export_index k))
 
 -- An export (5.5.10).
 unfoldable pub SpellsExport : Spelling Export

@@ -56,6 +56,19 @@ unfoldable pub byte_at : Reader ℕ
 byte_at end [] = Err (Malformed end End)
 byte_at end (b ∷ bs) = Ok (b, bs)
 
+-- A value that one byte stands for, by the byte and its place.
+unfoldable pub of_byte : {A : Type 0} → (ℕ → ℕ → Result A DecodeFault) → Reader A
+of_byte f end bytes = do
+  b ← byte_at end bytes
+  t ← f (place end bytes) b.0
+  Ok (t, b.1)
+
+-- What follows a byte, by the byte and its place.
+unfoldable pub tagged_at : {A : Type 0} → (ℕ → ℕ → Reader A) → Reader A
+tagged_at f end bytes = do
+  b ← byte_at end bytes
+  f (place end bytes) b.0 end b.1
+
 -- Entries one after another, with the place of each.
 unfoldable pub entries_at : {A : Type 0} → Reader A → ℕ → Reader (List A × List ℕ)
 entries_at r zero end bytes = Ok (([], []), bytes)

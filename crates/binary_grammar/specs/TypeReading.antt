@@ -15,7 +15,7 @@ use Rattle.binary_grammar.specs.declared.fault.DecodeFault.{DecodeFault}
 use Rattle.binary_grammar.specs.declared.fault.DecodeFault.TheVariants.{Malformed}
 use Rattle.binary_grammar.specs.declared.fault.DecodeWord.TheVariants.{Byte, Float}
 use Rattle.binary_grammar.specs.declared.fault.LimitWord.TheVariants.{Params}
-use Rattle.binary_grammar.specs.Reading.{◌>>=◌, Reader, place, then_at, done_at, byte_at, number_at, name_at, list_at, limited_at}
+use Rattle.binary_grammar.specs.Reading.{◌>>=◌, Reader, then_at, done_at, of_byte, tagged_at, number_at, name_at, list_at, limited_at}
 
 abbrev pub value_type_of : ℕ → ℕ → Result ValType DecodeFault
 value_type_of at b =
@@ -23,32 +23,27 @@ value_type_of at b =
     (if b == 0x7d || b == 0x7c then Err (Malformed at Float) else Err (Malformed at Byte)))
 
 unfoldable pub value_type_at : Reader ValType
-value_type_at end bytes = do
-  b ← byte_at end bytes
-  t ← value_type_of (place end bytes) b.0
-  Ok (t, b.1)
-
+value_type_at = of_byte value_type_of
 
 -- A byte that must be this one.
+abbrev pub tag_of : ℕ → ℕ → ℕ → Result ℕ DecodeFault
+tag_of tag at b = if b == tag then Ok b else Err (Malformed at Byte)
+
 unfoldable pub tag_at : ℕ → Reader ℕ
-tag_at tag end bytes = do
-  b ← byte_at end bytes
-  if b.0 == tag then Ok b else Err (Malformed (place end bytes) Byte)
+tag_at tag = of_byte (tag_of tag)
 
 -- A byte that must be 0 or 1.
+abbrev pub flag_of : ℕ → ℕ → Result Bool DecodeFault
+flag_of at b = if b == 0 then Ok false else (if b == 1 then Ok true else Err (Malformed at Byte))
+
 unfoldable pub flag_at : Reader Bool
-flag_at end bytes = do
-  b ← byte_at end bytes
-  if b.0 == 0 then Ok (false, b.1) else (if b.0 == 1 then Ok (true, b.1) else Err (Malformed (place end bytes) Byte))
+flag_at = of_byte flag_of
 
 abbrev pub block_type_of : ℕ → ℕ → Result (Option ValType) DecodeFault
 block_type_of at b = if b == 0x40 then Ok None else (value_type_of at b >>= λ t. Ok (Some t))
 
 unfoldable pub block_type_at : Reader (Option ValType)
-block_type_at end bytes = do
-  b ← byte_at end bytes
-  t ← block_type_of (place end bytes) b.0
-  Ok (t, b.1)
+block_type_at = of_byte block_type_of
 
 unfoldable pub func_type_at : ℕ → Reader FuncType
 func_type_at most =
@@ -79,9 +74,7 @@ import_kind_of at b end bytes =
     (if b == 3 then (then_at global_type_at (λ x. done_at (import.Global x)) end bytes) else Err (Malformed at Byte))))
 
 unfoldable pub import_kind_at : Reader ImportKind
-import_kind_at end bytes = do
-  b ← byte_at end bytes
-  import_kind_of (place end bytes) b.0 end b.1
+import_kind_at = tagged_at import_kind_of
 
 unfoldable pub import_at : Reader Import
 import_at =
@@ -96,9 +89,7 @@ export_kind_of at b end bytes =
     (if b == 3 then (then_at number_at (λ x. done_at (export.Global x)) end bytes) else Err (Malformed at Byte))))
 
 unfoldable pub export_kind_at : Reader ExportKind
-export_kind_at end bytes = do
-  b ← byte_at end bytes
-  export_kind_of (place end bytes) b.0 end b.1
+export_kind_at = tagged_at export_kind_of
 
 unfoldable pub export_at : Reader Export
 export_at = then_at name_at (λ name. then_at export_kind_at (λ kind. done_at (record { name = name; kind = kind })))

@@ -13,7 +13,7 @@ use std::alloc::Global;
 use wasm_syntax::{Flat, Instr, Kind, MAX_ITEMS, Opcode, Plain, opcode};
 use wasm_values::{Val, ValType};
 
-#[tactic(auto, unfolding(binary_grammar::specs::CodeReading::word32_at, binary_grammar::specs::Reading::then_at, binary_grammar::specs::Reading::done_at))]
+#[tactic(auto, unfolding(binary_grammar::specs::CodeReading::word32_at, binary_grammar::specs::Reading::then_at, binary_grammar::specs::Reading::done_at, binary_grammar::specs::Reading::of_byte, binary_grammar::specs::Reading::tagged_at))]
 fn read_word32(bytes: &[u8], end: usize) -> Result<(u32, &[u8]), DecodeFault>
     ensures gives { Gives (λ x. (x.0, x.1.now)) result (word32_at end bytes.now) }
     ensures shorter { IfOk result (λ x. length x.1.now ≤ length bytes.now) }
@@ -24,7 +24,7 @@ fn read_word32(bytes: &[u8], end: usize) -> Result<(u32, &[u8]), DecodeFault>
     }
 }
 
-#[tactic(auto, unfolding(binary_grammar::specs::CodeReading::word64_at, binary_grammar::specs::Reading::then_at, binary_grammar::specs::Reading::done_at))]
+#[tactic(auto, unfolding(binary_grammar::specs::CodeReading::word64_at, binary_grammar::specs::Reading::then_at, binary_grammar::specs::Reading::done_at, binary_grammar::specs::Reading::of_byte, binary_grammar::specs::Reading::tagged_at))]
 fn read_word64(bytes: &[u8], end: usize) -> Result<(u64, &[u8]), DecodeFault>
     ensures gives { Gives (λ x. (x.0, x.1.now)) result (word64_at end bytes.now) }
     ensures shorter { IfOk result (λ x. length x.1.now ≤ length bytes.now) }
@@ -35,7 +35,7 @@ fn read_word64(bytes: &[u8], end: usize) -> Result<(u64, &[u8]), DecodeFault>
     }
 }
 
-#[tactic(auto, unfolding(binary_grammar::specs::CodeReading::index_at, binary_grammar::specs::Reading::then_at, binary_grammar::specs::Reading::done_at))]
+#[tactic(auto, unfolding(binary_grammar::specs::CodeReading::index_at, binary_grammar::specs::Reading::then_at, binary_grammar::specs::Reading::done_at, binary_grammar::specs::Reading::of_byte, binary_grammar::specs::Reading::tagged_at))]
 fn read_index(at: usize, op: Opcode, bytes: &[u8], end: usize) -> Result<(Instr, &[u8]), DecodeFault>
     ensures gives { Gives (λ x. (x.0, x.1.now)) result (index_at at op end bytes.now) }
     ensures shorter { IfOk result (λ x. length x.1.now ≤ length bytes.now) }
@@ -78,7 +78,7 @@ fn read_index(at: usize, op: Opcode, bytes: &[u8], end: usize) -> Result<(Instr,
     }
 }
 
-#[tactic(auto, unfolding(binary_grammar::specs::CodeReading::indexed_at, binary_grammar::specs::Reading::then_at, binary_grammar::specs::Reading::done_at))]
+#[tactic(auto, unfolding(binary_grammar::specs::CodeReading::indexed_at, binary_grammar::specs::Reading::then_at, binary_grammar::specs::Reading::done_at, binary_grammar::specs::Reading::of_byte, binary_grammar::specs::Reading::tagged_at))]
 fn read_indexed(alloc: Global, at: usize, op: Opcode, bytes: &[u8], end: usize) -> Result<(Instr, &[u8]), DecodeFault>
     requires { length bytes.now ≤ MAX_ITEMS }
     ensures gives { Gives (λ x. (x.0, x.1.now)) result (indexed_at at op end bytes.now) }
@@ -110,7 +110,7 @@ fn read_indexed(alloc: Global, at: usize, op: Opcode, bytes: &[u8], end: usize) 
     }
 }
 
-#[tactic(auto, unfolding(binary_grammar::specs::CodeReading::simple_at, binary_grammar::specs::Reading::then_at, binary_grammar::specs::Reading::done_at))]
+#[tactic(auto, unfolding(binary_grammar::specs::CodeReading::simple_at, binary_grammar::specs::Reading::then_at, binary_grammar::specs::Reading::done_at, binary_grammar::specs::Reading::of_byte, binary_grammar::specs::Reading::tagged_at))]
 fn read_simple(alloc: Global, at: usize, op: Opcode, bytes: &[u8], end: usize) -> Result<(Instr, &[u8]), DecodeFault>
     requires { length bytes.now ≤ MAX_ITEMS }
     ensures gives { Gives (λ x. (x.0, x.1.now)) result (simple_at at op end bytes.now) }
@@ -144,7 +144,7 @@ fn read_simple(alloc: Global, at: usize, op: Opcode, bytes: &[u8], end: usize) -
     }
 }
 
-#[tactic(auto, unfolding(binary_grammar::specs::CodeReading::head_at, binary_grammar::specs::Reading::then_at, binary_grammar::specs::Reading::done_at))]
+#[tactic(auto, unfolding(binary_grammar::specs::CodeReading::head_at, binary_grammar::specs::Reading::then_at, binary_grammar::specs::Reading::done_at, binary_grammar::specs::Reading::of_byte, binary_grammar::specs::Reading::tagged_at))]
 fn read_head(full: bool, at: usize, bytes: &[u8], end: usize) -> Result<(Option<ValType>, &[u8]), DecodeFault>
     ensures gives { Gives (λ x. (x.0, x.1.now)) result (head_at full at end bytes.now) }
     ensures shorter { IfOk result (λ x. length x.1.now ≤ length bytes.now) }
@@ -159,7 +159,7 @@ fn read_head(full: bool, at: usize, bytes: &[u8], end: usize) -> Result<(Option<
 }
 
 /// The rest of an item behind its opcode. `turn` says whether an `else` may come, `full` whether no block may.
-#[tactic(auto, unfolding(binary_grammar::specs::CodeReading::op_at, binary_grammar::specs::Reading::then_at, binary_grammar::specs::Reading::done_at))]
+#[tactic(auto, unfolding(binary_grammar::specs::CodeReading::op_at, binary_grammar::specs::Reading::then_at, binary_grammar::specs::Reading::done_at, binary_grammar::specs::Reading::of_byte, binary_grammar::specs::Reading::tagged_at))]
 fn read_op(
     alloc: Global,
     turn: bool,
@@ -202,7 +202,7 @@ fn read_op(
     }
 }
 
-#[tactic(auto, unfolding(binary_grammar::specs::CodeReading::kind_at, binary_grammar::specs::Reading::then_at, binary_grammar::specs::Reading::done_at))]
+#[tactic(auto, unfolding(binary_grammar::specs::CodeReading::kind_at, binary_grammar::specs::Reading::then_at, binary_grammar::specs::Reading::done_at, binary_grammar::specs::Reading::of_byte, binary_grammar::specs::Reading::tagged_at))]
 fn read_kind(
     alloc: Global,
     turn: bool,
@@ -224,7 +224,7 @@ fn read_kind(
     }
 }
 
-#[tactic(auto, unfolding(binary_grammar::specs::CodeReading::item_at, binary_grammar::specs::Reading::then_at, binary_grammar::specs::Reading::done_at))]
+#[tactic(auto, unfolding(binary_grammar::specs::CodeReading::item_at, binary_grammar::specs::Reading::then_at, binary_grammar::specs::Reading::done_at, binary_grammar::specs::Reading::of_byte, binary_grammar::specs::Reading::tagged_at))]
 pub(crate) fn read_item(alloc: Global, turn: bool, full: bool, bytes: &[u8], end: usize) -> Result<(Flat, &[u8]), DecodeFault>
     requires { length bytes.now ≤ MAX_ITEMS }
     ensures gives { Gives (λ x. (x.0, x.1.now)) result (item_at turn full end bytes.now) }

@@ -23,7 +23,7 @@ fn value_type(at: usize, byte: u8) -> Result<ValType, DecodeFault>
     }
 }
 
-#[tactic(auto, unfolding(binary_grammar::specs::TypeReading::value_type_at, binary_grammar::specs::Reading::then_at, binary_grammar::specs::Reading::done_at))]
+#[tactic(auto, unfolding(binary_grammar::specs::TypeReading::value_type_at, binary_grammar::specs::Reading::then_at, binary_grammar::specs::Reading::done_at, binary_grammar::specs::Reading::of_byte, binary_grammar::specs::Reading::tagged_at))]
 pub(crate) fn read_value_type(bytes: &[u8], end: usize) -> Result<(ValType, &[u8]), DecodeFault>
     ensures gives { Gives (λ x. (x.0, x.1.now)) result (value_type_at end bytes.now) }
     ensures shorter { IfOk result (λ x. length x.1.now ≤ length bytes.now) }
@@ -52,7 +52,7 @@ fn block_type(at: usize, byte: u8) -> Result<Option<ValType>, DecodeFault>
     }
 }
 
-#[tactic(auto, unfolding(binary_grammar::specs::TypeReading::block_type_at, binary_grammar::specs::Reading::then_at, binary_grammar::specs::Reading::done_at))]
+#[tactic(auto, unfolding(binary_grammar::specs::TypeReading::block_type_at, binary_grammar::specs::Reading::then_at, binary_grammar::specs::Reading::done_at, binary_grammar::specs::Reading::of_byte, binary_grammar::specs::Reading::tagged_at))]
 pub(crate) fn read_block_type(bytes: &[u8], end: usize) -> Result<(Option<ValType>, &[u8]), DecodeFault>
     ensures gives { Gives (λ x. (x.0, x.1.now)) result (block_type_at end bytes.now) }
     ensures shorter { IfOk result (λ x. length x.1.now ≤ length bytes.now) }
@@ -63,7 +63,7 @@ pub(crate) fn read_block_type(bytes: &[u8], end: usize) -> Result<(Option<ValTyp
 }
 
 /// What follows a byte that must be `tag`.
-#[tactic(auto, unfolding(binary_grammar::specs::TypeReading::tag_at, binary_grammar::specs::Reading::then_at, binary_grammar::specs::Reading::done_at))]
+#[tactic(auto, unfolding(binary_grammar::specs::TypeReading::tag_at, binary_grammar::specs::Reading::then_at, binary_grammar::specs::Reading::done_at, binary_grammar::specs::Reading::of_byte, binary_grammar::specs::Reading::tagged_at))]
 pub(crate) fn read_tag(tag: u8, bytes: &[u8], end: usize) -> Result<(u8, &[u8]), DecodeFault>
     ensures gives { Gives (λ x. (x.0, x.1.now)) result (tag_at tag end bytes.now) }
     ensures shorter { IfOk result (λ x. length x.1.now ≤ length bytes.now) }
@@ -76,7 +76,7 @@ pub(crate) fn read_tag(tag: u8, bytes: &[u8], end: usize) -> Result<(u8, &[u8]),
     }
 }
 
-#[tactic(auto, unfolding(binary_grammar::specs::TypeReading::flag_at, binary_grammar::specs::Reading::then_at, binary_grammar::specs::Reading::done_at))]
+#[tactic(auto, unfolding(binary_grammar::specs::TypeReading::flag_at, binary_grammar::specs::Reading::then_at, binary_grammar::specs::Reading::done_at, binary_grammar::specs::Reading::of_byte, binary_grammar::specs::Reading::tagged_at))]
 fn read_flag(bytes: &[u8], end: usize) -> Result<(bool, &[u8]), DecodeFault>
     ensures gives { Gives (λ x. (x.0, x.1.now)) result (flag_at end bytes.now) }
     ensures shorter { IfOk result (λ x. length x.1.now ≤ length bytes.now) }
@@ -89,7 +89,7 @@ fn read_flag(bytes: &[u8], end: usize) -> Result<(bool, &[u8]), DecodeFault>
     }
 }
 
-#[tactic(auto, unfolding(binary_grammar::specs::TypeReading::func_type_at, binary_grammar::specs::Reading::then_at, binary_grammar::specs::Reading::done_at))]
+#[tactic(auto, unfolding(binary_grammar::specs::TypeReading::func_type_at, binary_grammar::specs::Reading::then_at, binary_grammar::specs::Reading::done_at, binary_grammar::specs::Reading::of_byte, binary_grammar::specs::Reading::tagged_at))]
 fn read_func_type(alloc: Global, bytes: &[u8], end: usize) -> Result<(FuncType, &[u8]), DecodeFault>
     requires { length bytes.now ≤ MAX_ITEMS }
     ensures gives { Gives (λ x. (x.0, x.1.now)) result (func_type_at the_bounds.params end bytes.now) }
@@ -109,7 +109,7 @@ impl Entry for FuncType {
     }
 }
 
-#[tactic(auto, unfolding(binary_grammar::specs::Reading::then_at, binary_grammar::specs::Reading::done_at))]
+#[tactic(auto, unfolding(binary_grammar::specs::Reading::then_at, binary_grammar::specs::Reading::done_at, binary_grammar::specs::Reading::of_byte, binary_grammar::specs::Reading::tagged_at))]
 fn read_greatest(there: bool, bytes: &[u8], end: usize) -> Result<(Option<u32>, &[u8]), DecodeFault>
     ensures gives { Gives (λ x. (x.0, x.1.now)) result (greatest_at there end bytes.now) }
     ensures shorter { IfOk result (λ x. length x.1.now ≤ length bytes.now) }
@@ -122,7 +122,7 @@ fn read_greatest(there: bool, bytes: &[u8], end: usize) -> Result<(Option<u32>, 
     }
 }
 
-#[tactic(auto, unfolding(binary_grammar::specs::TypeReading::limits_at, binary_grammar::specs::Reading::then_at, binary_grammar::specs::Reading::done_at))]
+#[tactic(auto, unfolding(binary_grammar::specs::TypeReading::limits_at, binary_grammar::specs::Reading::then_at, binary_grammar::specs::Reading::done_at, binary_grammar::specs::Reading::of_byte, binary_grammar::specs::Reading::tagged_at))]
 pub(crate) fn read_limits(bytes: &[u8], end: usize) -> Result<(Limits, &[u8]), DecodeFault>
     ensures gives { Gives (λ x. (x.0, x.1.now)) result (limits_at end bytes.now) }
     ensures shorter { IfOk result (λ x. length x.1.now ≤ length bytes.now) }
@@ -133,7 +133,7 @@ pub(crate) fn read_limits(bytes: &[u8], end: usize) -> Result<(Limits, &[u8]), D
     Ok((Limits { min, max }, rest))
 }
 
-#[tactic(auto, unfolding(binary_grammar::specs::TypeReading::table_type_at, binary_grammar::specs::Reading::then_at, binary_grammar::specs::Reading::done_at))]
+#[tactic(auto, unfolding(binary_grammar::specs::TypeReading::table_type_at, binary_grammar::specs::Reading::then_at, binary_grammar::specs::Reading::done_at, binary_grammar::specs::Reading::of_byte, binary_grammar::specs::Reading::tagged_at))]
 pub(crate) fn read_table_type(bytes: &[u8], end: usize) -> Result<(Limits, &[u8]), DecodeFault>
     ensures gives { Gives (λ x. (x.0, x.1.now)) result (table_type_at end bytes.now) }
     ensures shorter { IfOk result (λ x. length x.1.now ≤ length bytes.now) }
@@ -142,7 +142,7 @@ pub(crate) fn read_table_type(bytes: &[u8], end: usize) -> Result<(Limits, &[u8]
     read_limits(rest, end)
 }
 
-#[tactic(auto, unfolding(binary_grammar::specs::TypeReading::global_type_at, binary_grammar::specs::Reading::then_at, binary_grammar::specs::Reading::done_at))]
+#[tactic(auto, unfolding(binary_grammar::specs::TypeReading::global_type_at, binary_grammar::specs::Reading::then_at, binary_grammar::specs::Reading::done_at, binary_grammar::specs::Reading::of_byte, binary_grammar::specs::Reading::tagged_at))]
 pub(crate) fn read_global_type(bytes: &[u8], end: usize) -> Result<(GlobalType, &[u8]), DecodeFault>
     ensures gives { Gives (λ x. (x.0, x.1.now)) result (global_type_at end bytes.now) }
     ensures shorter { IfOk result (λ x. length x.1.now ≤ length bytes.now) }
@@ -152,7 +152,7 @@ pub(crate) fn read_global_type(bytes: &[u8], end: usize) -> Result<(GlobalType, 
     Ok((GlobalType { value, mutable }, rest))
 }
 
-#[tactic(auto, unfolding(binary_grammar::specs::TypeReading::import_kind_of, binary_grammar::specs::Reading::then_at, binary_grammar::specs::Reading::done_at))]
+#[tactic(auto, unfolding(binary_grammar::specs::TypeReading::import_kind_of, binary_grammar::specs::Reading::then_at, binary_grammar::specs::Reading::done_at, binary_grammar::specs::Reading::of_byte, binary_grammar::specs::Reading::tagged_at))]
 fn import_kind(at: usize, byte: u8, bytes: &[u8], end: usize) -> Result<(ImportKind, &[u8]), DecodeFault>
     ensures gives { Gives (λ x. (x.0, x.1.now)) result (import_kind_of at byte end bytes.now) }
     ensures shorter { IfOk result (λ x. length x.1.now ≤ length bytes.now) }
@@ -178,7 +178,7 @@ fn import_kind(at: usize, byte: u8, bytes: &[u8], end: usize) -> Result<(ImportK
     }
 }
 
-#[tactic(auto, unfolding(binary_grammar::specs::TypeReading::import_kind_at, binary_grammar::specs::Reading::then_at, binary_grammar::specs::Reading::done_at))]
+#[tactic(auto, unfolding(binary_grammar::specs::TypeReading::import_kind_at, binary_grammar::specs::Reading::then_at, binary_grammar::specs::Reading::done_at, binary_grammar::specs::Reading::of_byte, binary_grammar::specs::Reading::tagged_at))]
 fn read_import_kind(bytes: &[u8], end: usize) -> Result<(ImportKind, &[u8]), DecodeFault>
     ensures gives { Gives (λ x. (x.0, x.1.now)) result (import_kind_at end bytes.now) }
     ensures shorter { IfOk result (λ x. length x.1.now ≤ length bytes.now) }
@@ -187,7 +187,7 @@ fn read_import_kind(bytes: &[u8], end: usize) -> Result<(ImportKind, &[u8]), Dec
     import_kind(place(bytes, end), byte, rest, end)
 }
 
-#[tactic(auto, unfolding(binary_grammar::specs::TypeReading::import_at, binary_grammar::specs::Reading::then_at, binary_grammar::specs::Reading::done_at))]
+#[tactic(auto, unfolding(binary_grammar::specs::TypeReading::import_at, binary_grammar::specs::Reading::then_at, binary_grammar::specs::Reading::done_at, binary_grammar::specs::Reading::of_byte, binary_grammar::specs::Reading::tagged_at))]
 fn read_import(alloc: Global, bytes: &[u8], end: usize) -> Result<(Import, &[u8]), DecodeFault>
     ensures gives { Gives (λ x. (x.0, x.1.now)) result (import_at end bytes.now) }
     ensures shorter { IfOk result (λ x. length x.1.now ≤ length bytes.now) }
@@ -206,7 +206,7 @@ impl Entry for Import {
     }
 }
 
-#[tactic(auto, unfolding(binary_grammar::specs::TypeReading::export_kind_of, binary_grammar::specs::Reading::then_at, binary_grammar::specs::Reading::done_at))]
+#[tactic(auto, unfolding(binary_grammar::specs::TypeReading::export_kind_of, binary_grammar::specs::Reading::then_at, binary_grammar::specs::Reading::done_at, binary_grammar::specs::Reading::of_byte, binary_grammar::specs::Reading::tagged_at))]
 fn export_kind(at: usize, byte: u8, bytes: &[u8], end: usize) -> Result<(ExportKind, &[u8]), DecodeFault>
     ensures gives { Gives (λ x. (x.0, x.1.now)) result (export_kind_of at byte end bytes.now) }
     ensures shorter { IfOk result (λ x. length x.1.now ≤ length bytes.now) }
@@ -232,7 +232,7 @@ fn export_kind(at: usize, byte: u8, bytes: &[u8], end: usize) -> Result<(ExportK
     }
 }
 
-#[tactic(auto, unfolding(binary_grammar::specs::TypeReading::export_kind_at, binary_grammar::specs::Reading::then_at, binary_grammar::specs::Reading::done_at))]
+#[tactic(auto, unfolding(binary_grammar::specs::TypeReading::export_kind_at, binary_grammar::specs::Reading::then_at, binary_grammar::specs::Reading::done_at, binary_grammar::specs::Reading::of_byte, binary_grammar::specs::Reading::tagged_at))]
 fn read_export_kind(bytes: &[u8], end: usize) -> Result<(ExportKind, &[u8]), DecodeFault>
     ensures gives { Gives (λ x. (x.0, x.1.now)) result (export_kind_at end bytes.now) }
     ensures shorter { IfOk result (λ x. length x.1.now ≤ length bytes.now) }
@@ -241,7 +241,7 @@ fn read_export_kind(bytes: &[u8], end: usize) -> Result<(ExportKind, &[u8]), Dec
     export_kind(place(bytes, end), byte, rest, end)
 }
 
-#[tactic(auto, unfolding(binary_grammar::specs::TypeReading::export_at, binary_grammar::specs::Reading::then_at, binary_grammar::specs::Reading::done_at))]
+#[tactic(auto, unfolding(binary_grammar::specs::TypeReading::export_at, binary_grammar::specs::Reading::then_at, binary_grammar::specs::Reading::done_at, binary_grammar::specs::Reading::of_byte, binary_grammar::specs::Reading::tagged_at))]
 fn read_export(alloc: Global, bytes: &[u8], end: usize) -> Result<(Export, &[u8]), DecodeFault>
     ensures gives { Gives (λ x. (x.0, x.1.now)) result (export_at end bytes.now) }
     ensures shorter { IfOk result (λ x. length x.1.now ≤ length bytes.now) }
