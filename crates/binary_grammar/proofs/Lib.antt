@@ -1,2 +1,3 @@
 pub mod NumberLaws
 pub mod Exact
+pub mod TypeLaws
