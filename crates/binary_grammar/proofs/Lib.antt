@@ -1,3 +1,4 @@
 pub mod NumberLaws
 pub mod Exact
 pub mod TypeLaws
+pub mod ItemLaws

@@ -6,3 +6,4 @@ pub mod TypeReading
 pub mod CodeReading
 pub mod SectionReading
 pub mod Grammar
+pub mod CodeGrammar
