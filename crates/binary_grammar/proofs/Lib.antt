@@ -2,3 +2,5 @@ pub mod NumberLaws
 pub mod Exact
 pub mod TypeLaws
 pub mod ItemLaws
+pub mod Follow
+pub mod CodeLaws
