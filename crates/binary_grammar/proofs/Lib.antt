@@ -4,3 +4,4 @@ pub mod TypeLaws
 pub mod ItemLaws
 pub mod Follow
 pub mod CodeLaws
+pub mod BodyLaws

@@ -99,13 +99,21 @@ abbrev pub locals_of : List (ℕ × ValType) → List ValType
 locals_of [] = []
 locals_of (r ∷ rs) = copies r.0 r.1 ++ locals_of rs
 
+-- So many runs of locals.
+unfoldable pub Runs : ℕ → Spelling (List ValType)
+Runs n at text ls = (runs : List (ℕ × ValType)) × (places : List ℕ) × (length runs ≡ n) × Each SpellsRun at text (runs, places) × (ls ≡ locals_of runs)
+
 -- Locals: a vector of runs (5.5.13).
 unfoldable pub SpellsLocals : Spelling (List ValType)
-SpellsLocals at text ls = (runs : List (ℕ × ValType)) × SpellsList SpellsRun at text runs × (ls ≡ locals_of runs)
+SpellsLocals = Then SpellsNumber Runs
+
+-- A text of this length.
+unfoldable pub OfLength : {A : Type 0} → ℕ → Spelling A → Spelling A
+OfLength n P at text x = (length text ≡ n) × P at text x
 
 -- A size, and contents of that size.
 unfoldable pub Sized : {A : Type 0} → Spelling A → Spelling A
-Sized P = Then SpellsNumber (λ n at text x. (length text ≡ n) × P at text x)
+Sized P = Then SpellsNumber (λ n. OfLength n P)
 
 -- A function's locals and code (5.5.13).
 unfoldable pub SpellsBodyContents : Spelling Body
