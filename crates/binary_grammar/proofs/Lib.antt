@@ -5,3 +5,4 @@ pub mod ItemLaws
 pub mod Follow
 pub mod CodeLaws
 pub mod BodyLaws
+pub mod SectionLaws

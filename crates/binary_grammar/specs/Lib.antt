@@ -7,3 +7,4 @@ pub mod CodeReading
 pub mod SectionReading
 pub mod Grammar
 pub mod CodeGrammar
+pub mod ModuleGrammar
