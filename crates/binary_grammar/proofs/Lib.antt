@@ -6,3 +6,4 @@ pub mod Follow
 pub mod CodeLaws
 pub mod BodyLaws
 pub mod SectionLaws
+pub mod ModuleLaws

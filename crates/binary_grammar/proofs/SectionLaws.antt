@@ -19,7 +19,7 @@ use Rattle.binary_grammar.specs.Reading.{◌>>=◌, Reader, place, then_at, done
 use Rattle.binary_grammar.specs.CodeReading.{instrs_at, body_at}
 use Rattle.binary_grammar.specs.SectionReading.{global_at, elem_at, segment_at, custom_at, bodies_at, types_at, imports_at, funcs_at, tables_at, memories_at, globals_at, exports_at, start_at, elems_at, segments_at, contents_at, id_at, section_at}
 use Rattle.binary_grammar.specs.Grammar.{Spelling, Then, Done, Tagged, SpellsNumber, Many, SpellsVector, SpellsList, SpellsBytes, SpellsName, SpellsFuncType, SpellsLimits, SpellsTableType, SpellsGlobalType, SpellsImport, SpellsExport}
-use Rattle.binary_grammar.specs.CodeGrammar.{SpellsInstrs, Sized, SpellsBody, NestsAtMost}
+use Rattle.binary_grammar.specs.CodeGrammar.{SpellsInstrs, OfLength, Sized, SpellsBody, NestsAtMost}
 use Rattle.binary_grammar.specs.ModuleGrammar.{SpellsGlobal, SpellsElem, SpellsSegment, id_of, SpellsContents, SpellsSection, InOrder, Counts, FuncTypeWithin, GlobalWithin, ElemWithin, SegmentWithin}
 use Rattle.binary_grammar.proofs.NumberLaws.{chosen}
 use Rattle.binary_grammar.proofs.Exact.{Limited, Free, Taken, FirstByte, Exact, Splits, ok, ok_is, bind_ok, place_after, shorter, exact_then, exact_done, free, exact_number, byte_taken, byte_again, exact_as, exact_entries, exact_vector}
@@ -311,3 +311,129 @@ whole_contents most declared id small = record {
   takes = λ end text s le e. contents_takes most declared id end text s small le e;
   again = λ end text s le h w. contents_again most declared id end text s le h w;
 }
+
+-- ---- ids
+
+abbrev AnyByte : Spelling ℕ
+AnyByte at text b = text ≡ b ∷ []
+
+abbrev IdFits : ℕ → Limited ℕ
+IdFits last b = (b ≤ 11) × InOrder last b
+
+order_of : (c d : Bool) → (not c && d) ≡ false → (c ≡ true) ⊎ (d ≡ false)
+order_of true d e = inl refl
+order_of false d e = inr e
+
+id_order : (last b : ℕ) → (not (eqb b 0) && leb b last) ≡ false → InOrder last b
+id_order last b e = elim (order_of (eqb b 0) (leb b last) e) [ inl h ↦ inl (eqb-true b 0 h) | inr h ↦ inr (leb-false b last h) ]
+
+and_false : (c : Bool) → (not c && false) ≡ false
+and_false true = refl
+and_false false = refl
+
+order_id : (last b : ℕ) → InOrder last b → (not (eqb b 0) && leb b last) ≡ false
+order_id last b (inl h) = rw h refl
+order_id last b (inr h) = rw (lt-leb b last h) (and_false (eqb b 0))
+
+exact_id : (last : ℕ) → Exact (id_at last) AnyByte (IdFits last)
+unfolding id_at
+exact_id last = record {
+  takes = λ end bytes rest x le e.
+    let p = bind_ok (byte_at end bytes) (λ b. cond (ltb 11 b.0) (err (Malformed (place end bytes) word.Byte)) (cond (not (eqb b.0 0) && leb b.0 last) (err (Malformed (place end bytes) word.Order)) (Ok b))) (x, rest) e in
+    let b = p.0.0 in
+    elim (chosen (ltb 11 b) (err (Malformed (place end bytes) word.Byte)) (cond (not (eqb b 0) && leb b last) (err (Malformed (place end bytes) word.Order)) (ok p.0)) (ok (x, rest)) p.2) [
+      | inl h ↦ absurd (let k = h.1 in cc)
+      | inr h ↦ elim (chosen (not (eqb b 0) && leb b last) (err (Malformed (place end bytes) word.Order)) (ok p.0) (ok (x, rest)) h.1) [
+        | inl k ↦ absurd (let q = k.1 in cc)
+        | inr k ↦
+          let s = ok_is p.0 (x, rest) k.1 in
+          let is : b ≡ x = ap (λ (z : ℕ × List ℕ). z.0) s in
+          record {
+            text = x ∷ [];
+            parts = (byte_taken end bytes p.0 p.1).is ∙ ap (λ (z : ℕ × List ℕ). z.0 ∷ z.1) s;
+            spells = refl;
+            within = subst (IdFits last) is (ltb-false 11 b h.0, id_order last b k.0);
+          }
+      ]
+    ];
+  again = λ end text rest x le h w.
+    rw h (rw (byte_again end x rest) (rw (le-ltb 11 x w.0, order_id last x w.1) refl));
+}
+
+-- ---- sections
+
+then_within : {A B : Type 0} {r : Reader A} {P : Spelling A} {W : Limited A} {s : A → Reader B} {Q : A → Spelling B} {V : A → Limited B} {U : Limited B} →
+    Exact r P W → ((x : A) → W x → Exact (s x) (Q x) (V x)) → Splits W Q V U → Exact (then_at r s) (Then P Q) U
+unfolding then_at Then
+then_within {A} {B} {r} {P} {W} {s} {Q} {V} {U} er es sp = record {
+  takes = λ end bytes rest y le e.
+    let b = bind_ok (r end bytes) (λ x. s x.0 end x.1) (y, rest) e in
+    let x = b.0.0 in
+    let mid = b.0.1 in
+    let t = er.takes end bytes mid x le b.1 in
+    let u = (es x t.within).takes end mid rest y (shorter end bytes t.text mid le t.parts) b.2 in
+    let q : Q x (place end bytes + length t.text) u.text y = subst (λ at. Q x at u.text y) (sym (place_after end bytes t.text mid le t.parts)) u.spells in
+    record {
+      text = t.text ++ u.text;
+      parts = t.parts ∙ ap (λ more. t.text ++ more) u.parts ∙ sym (append_assoc t.text u.text rest);
+      spells = (x, t.text, u.text, refl, t.spells, q);
+      within = sp.join x (place end bytes + length t.text) u.text y q t.within u.within;
+    };
+  again = λ end text rest y le h w.
+    let x = h.0 in
+    let a = h.1 in
+    let b = h.2 in
+    let whole : text ++ rest ≡ a ++ (b ++ rest) = ap (λ t. t ++ rest) h.3 ∙ append_assoc a b rest in
+    let ws = sp.split x (place end (text ++ rest) + length a) b y h.5 w in
+    let le2 : length (a ++ (b ++ rest)) ≤ end = subst (λ t. length t ≤ end) whole le in
+    let pa : P (place end (a ++ (b ++ rest))) a x = subst (λ t. P (place end t) a x) whole h.4 in
+    let first : r end (text ++ rest) ≡ Ok (x, b ++ rest) = ap (r end) whole ∙ er.again end a (b ++ rest) x le2 pa ws.0 in
+    let le3 : length (b ++ rest) ≤ end = shorter end (text ++ rest) a (b ++ rest) le whole in
+    let qb : Q x (place end (b ++ rest)) b y = subst (λ at. Q x at b y) (place_after end (text ++ rest) a (b ++ rest) le whole) h.5 in
+    ap (λ v. v >>= λ z. s z.0 end z.1) first ∙ (es x ws.0).again end b rest y le3 qb ws.1;
+}
+
+-- the limits of a section, and that it may stand
+abbrev pub Stood : Bounds → ℕ → ℕ → Limited Section
+Stood most last declared s = Fits most declared s × InOrder last (id_of s)
+
+id_small : (s : Section) → id_of s ≤ 11
+id_small (section.Custom n b) = omega arith
+id_small (section.Types es ps) = omega arith
+id_small (section.Imports es ps) = omega arith
+id_small (section.Funcs es ps) = omega arith
+id_small (section.Tables es ps) = omega arith
+id_small (section.Memories es ps) = omega arith
+id_small (section.Globals es ps) = omega arith
+id_small (section.Exports es ps) = omega arith
+id_small (section.Start n p) = omega arith
+id_small (section.Elems es ps) = omega arith
+id_small (section.Bodies bs) = omega arith
+id_small (section.Segments es ps) = omega arith
+
+section_splits : (most : Bounds) (last declared : ℕ) → Splits (IdFits last) (λ id. Sized (OfId id)) (λ id. Fits most declared) (Stood most last declared)
+unfolding Sized Then OfLength
+section_splits most last declared = record {
+  split = λ id at text s q u. (subst (IdFits last) (sym q.5.1.0) (id_small s, u.1), u.0);
+  join = λ id at text s q w v. (v, subst (InOrder last) q.5.1.0 w.1);
+}
+
+sized_id : (id at : ℕ) (text : List ℕ) (s : Section) → Sized (OfId id) at text s → (id ≡ id_of s) × Sized SpellsContents at text s
+unfolding Sized Then OfLength
+sized_id id at text s h = (h.5.1.0, (h.0, h.1, h.2, h.3, h.4, (h.5.0, h.5.1.1)))
+
+id_sized : (id at : ℕ) (text : List ℕ) (s : Section) → id ≡ id_of s → Sized SpellsContents at text s → Sized (OfId id) at text s
+unfolding Sized Then OfLength
+id_sized id at text s e h = (h.0, h.1, h.2, h.3, h.4, (h.5.0, (e, h.5.1)))
+
+pub exact_section : (most : Bounds) (last declared : ℕ) → Exact (section_at most last declared) SpellsSection (Stood most last declared)
+unfolding section_at SpellsSection Then Tagged
+exact_section most last declared =
+    exact_as (then_within (exact_id last) (λ id w. exact_sized (whole_contents most declared id w.0)) (section_splits most last declared))
+    (λ at text s h. let k = sized_id h.0 (at + length h.1) h.2 s h.5 in
+      (h.0, h.2, h.3 ∙ ap (λ t. t ++ h.2) h.4, (k.0, subst (λ n. Sized SpellsContents (at + n) h.2 s) (ap length h.4) k.1)))
+    (λ at text s h. (h.0, h.0 ∷ [], h.1, h.2, refl, id_sized h.0 (at + 1) h.1 s h.3.0 h.3.1))
+
+pub some_section : (at : ℕ) (text : List ℕ) (s : Section) → SpellsSection at text s → 0 < length text
+unfolding SpellsSection Tagged
+some_section at text s h = omega (arith, ap length h.2)
