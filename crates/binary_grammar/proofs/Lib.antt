@@ -7,3 +7,4 @@ pub mod CodeLaws
 pub mod BodyLaws
 pub mod SectionLaws
 pub mod ModuleLaws
+pub mod UniqueLaws

@@ -2,7 +2,9 @@
 #![tactic(auto)]
 
 mod fault;
+mod laws;
 mod section;
 
 pub use fault::{DecodeFault, DecodeWord, LebFault, LimitWord};
+pub use laws::{complete_readings, one_module};
 pub use section::{Body, Decoded, Draft, Section};
