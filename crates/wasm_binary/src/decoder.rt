@@ -1,4 +1,7 @@
-ghost use Rattle.std.specs.Prelude.{◌≡◌, ◌≤◌, ◌-◌, ◌<◌, ℕ, List, [], length, IfOk, OnOk};
+ghost use Rattle.std.specs.Prelude.{◌≡◌, ◌≤◌, ◌-◌, ◌<◌, ℕ, List, [], length, IfOk, OnOk, Ok};
+ghost use Rattle.wasm_syntax.specs.declared.module.Module.{Module};
+ghost use Rattle.wasm_syntax.specs.declared.module.Marks.{Marks};
+ghost use Rattle.binary_grammar.specs.ModuleGrammar.{Spells, InLimits};
 ghost use Rattle.binary_grammar.specs.Bounds.{the_bounds};
 ghost use Rattle.binary_grammar.specs.Reading.{Gives};
 ghost use Rattle.binary_grammar.specs.SectionReading.{after_of, with_section, no_sections, sections_at, funcs_of, places_of, finished_at, header, magic_at, header_at, module_at};
@@ -234,13 +237,26 @@ fn read_header(bytes: &[u8], end: usize) -> Result<&[u8], DecodeFault>
     read_magic(&HEADER, bytes, end)
 }
 
-/// The module that the bytes spell, and where its entries stand; else the first fault, from the front.
 #[tactic(auto, unfolding(binary_grammar::specs::SectionReading::module_at, binary_grammar::specs::Reading::then_at, binary_grammar::specs::Reading::done_at))]
-pub fn decode(alloc: Global, bytes: &[u8]) -> Result<Decoded, DecodeFault>
+fn read_module(alloc: Global, bytes: &[u8]) -> Result<Decoded, DecodeFault>
     ensures { Gives (λ d. d) result (module_at the_bounds bytes.now) }
 {
     let end = bytes.len();
     let rest = read_header(bytes, end)?;
     let draft = read_sections(alloc, rest, end)?;
     finish(alloc, draft, end)
+}
+
+/// The module that the bytes spell within the limits, and where its entries stand.
+///
+/// Takes time and memory in proportion to the bytes and the locals that they declare.
+pub fn decode(alloc: Global, bytes: &[u8]) -> Result<Decoded, DecodeFault>
+    // What is decoded is spelled so, within the limits.
+    ensures found { IfOk result (λ d. Spells bytes.now d.module d.marks × InLimits the_bounds d.module) }
+    // What is spelled so, within the limits, is decoded, unless memory runs out.
+    ensures spelled { (m : Module) (k : Marks) → Spells bytes.now m k → InLimits the_bounds m → Gives (λ d. d) result (Ok (record { «module» = m; marks = k })) }
+    // Which fault it is: the first one of the reading, unless memory runs out.
+    ensures exact { Gives (λ d. d) result (module_at the_bounds bytes.now) }
+{
+    read_module(alloc, bytes)
 }
