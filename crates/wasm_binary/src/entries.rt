@@ -73,14 +73,14 @@ pub(crate) fn read_limited<T: Entry>(
     ensures gives { Gives (λ x. ((x.0, x.1), x.2.now)) result (limited_at T.reads most word end bytes.now) }
     ensures shorter { IfOk result (λ x. length x.2.now ≤ length bytes.now) }
 {
-    let (count, rest) = read_number(bytes, end)?;
-    if most < count {
+    let (wanted, rest) = read_number(bytes, end)?;
+    if most < wanted {
         return Err(DecodeFault::Limit {
             at: place(bytes, end),
             word,
         });
     }
-    read_entries(alloc, count, rest, end)
+    read_entries(alloc, wanted, rest, end)
 }
 
 /// A vector whose places do not matter.

@@ -4,6 +4,10 @@ ghost use Rattle.binary_grammar.specs.NumberReading.{GivesNumber, placed, digits
 
 use binary_grammar::LebFault;
 
+// The most bytes of a number of 32 bits, and of 64 bits.
+const MOST_32: usize = 5;
+const MOST_64: usize = 10;
+
 /// The value of a number's digits, and how many they are.
 #[derive(Clone, Copy)]
 struct Digits {
@@ -81,7 +85,7 @@ pub(crate) fn take_u32(bytes: &[u8]) -> Result<(u32, &[u8]), LebFault>
     ensures gives { GivesNumber (λ x. (x.0, x.1.now)) result (u32_at bytes.now) }
     ensures shorter { IfOk result (λ x. length x.1.now ≤ length bytes.now) }
 {
-    let (digits, rest) = take_digits(bytes, 5)?;
+    let (digits, rest) = take_digits(bytes, MOST_32)?;
     if digits.value < 1 << 32 {
         Ok((digits.value as u32, rest))
     } else {
@@ -94,7 +98,7 @@ pub(crate) fn take_s32(bytes: &[u8]) -> Result<(i32, &[u8]), LebFault>
     ensures gives { GivesNumber (λ x. (x.0, x.1.now)) result (s32_at bytes.now) }
     ensures shorter { IfOk result (λ x. length x.1.now ≤ length bytes.now) }
 {
-    let (digits, rest) = take_digits(bytes, 5)?;
+    let (digits, rest) = take_digits(bytes, MOST_32)?;
     let value = signed(digits);
     if -(1 << 31) <= value && value < 1 << 31 {
         Ok((value as i32, rest))
@@ -108,7 +112,7 @@ pub(crate) fn take_s64(bytes: &[u8]) -> Result<(i64, &[u8]), LebFault>
     ensures gives { GivesNumber (λ x. (x.0, x.1.now)) result (s64_at bytes.now) }
     ensures shorter { IfOk result (λ x. length x.1.now ≤ length bytes.now) }
 {
-    let (digits, rest) = take_digits(bytes, 10)?;
+    let (digits, rest) = take_digits(bytes, MOST_64)?;
     let value = signed(digits);
     if -(1 << 63) <= value && value < 1 << 63 {
         Ok((value as i64, rest))
