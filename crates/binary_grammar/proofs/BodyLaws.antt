@@ -43,13 +43,13 @@ run_parts most sum end bytes rest r e =
     elim (chosen (ltb most (sum + p.0.0)) (err (Limit (place end bytes) limit.Locals)) (value_type_at end p.0.1 >>= λ t. Ok ((p.0.0, t.0), t.1)) (ok (r, rest)) p.2) [
       | inl h ↦ absurd (let k = h.1 in cc)
       | inr h ↦
-        let q = bind_ok (value_type_at end p.0.1) (λ t. Ok ((p.0.0, t.0), t.1)) (r, rest) h.1 in
-        let s = ok_is ((p.0.0, q.0.0), q.0.1) (r, rest) q.2 in
-        let n : p.0.0 ≡ r.0 = ap (λ (z : (ℕ × ValType) × List ℕ). z.0.0) s in
-        record {
-          plain = ap (λ v. v >>= λ x. value_type_at end x.1 >>= λ t. Ok ((x.0, t.0), t.1)) p.1 ∙ h.1;
-          few = subst (λ k. sum + k ≤ most) n (ltb-false most (sum + p.0.0) h.0);
-        }
+          let q = bind_ok (value_type_at end p.0.1) (λ t. Ok ((p.0.0, t.0), t.1)) (r, rest) h.1 in
+          let s = ok_is ((p.0.0, q.0.0), q.0.1) (r, rest) q.2 in
+          let n : p.0.0 ≡ r.0 = ap (λ (z : (ℕ × ValType) × List ℕ). z.0.0) s in
+          record {
+            plain = ap (λ v. v >>= λ x. value_type_at end x.1 >>= λ t. Ok ((x.0, t.0), t.1)) p.1 ∙ h.1;
+            few = subst (λ k. sum + k ≤ most) n (ltb-false most (sum + p.0.0) h.0);
+          }
     ]
 
 -- what follows the count of a run
@@ -115,7 +115,7 @@ runs_take most sum (suc n) end bytes rest ls le e =
     let t = exact_plain.takes end bytes mid r le v.plain in
     let u = runs_take most (sum + r.0) n end mid q.0.1 q.0.0 (shorter end bytes t.text mid le t.parts) q.1 in
     let each : Each SpellsRun (place end bytes + length t.text) u.text (u.runs, u.places) =
-        subst (λ at. Each SpellsRun at u.text (u.runs, u.places)) (sym (place_after end bytes t.text mid le t.parts)) u.spells in
+    subst (λ at. Each SpellsRun at u.text (u.runs, u.places)) (sym (place_after end bytes t.text mid le t.parts)) u.spells in
     let all : length (copies r.0 r.1 ++ q.0.0) ≡ r.0 + length q.0.0 = omega (arith, length-append (copies r.0 r.1) q.0.0, length-copies r.0 r.1) in
     subst (λ (z : List ValType × List ℕ). RunsTaken most sum (suc n) end bytes z.1 z.0) s (record {
       runs = r ∷ u.runs;
@@ -153,11 +153,11 @@ exact_runs : (most n : ℕ) → Exact (runs_at most 0 n) (Runs n) (FewLocals mos
 unfolding Runs
 exact_runs most n = record {
   takes = λ end bytes rest ls le e.
-    let t = runs_take most 0 n end bytes rest ls le e in
-    record { text = t.text; parts = t.parts; spells = (t.runs, t.places, t.count, t.spells, t.is); within = omega (arith, t.few (omega arith)) };
+      let t = runs_take most 0 n end bytes rest ls le e in
+      record { text = t.text; parts = t.parts; spells = (t.runs, t.places, t.count, t.spells, t.is); within = omega (arith, t.few (omega arith)) };
   again = λ end text rest ls le h w.
-    let few : 0 + length (locals_of h.0) ≤ most = omega (arith, ap length h.4) in
-    ap (λ k. runs_at most 0 k end (text ++ rest)) (sym h.2) ∙ runs_again most 0 end h.0 h.1 text rest le h.3 few ∙ ap (λ ms. ok (ms, rest)) (sym h.4);
+      let few : 0 + length (locals_of h.0) ≤ most = omega (arith, ap length h.4) in
+      ap (λ k. runs_at most 0 k end (text ++ rest)) (sym h.2) ∙ runs_again most 0 end h.0 h.1 text rest le h.3 few ∙ ap (λ ms. ok (ms, rest)) (sym h.4);
 }
 
 pub exact_locals : (most : ℕ) → Exact (locals_at most) SpellsLocals (FewLocals most)
@@ -174,12 +174,12 @@ pub record Whole {A : Type 0} (r : Reader A) (P : Spelling A) (W : Limited A) : 
 pub whole_of : {A : Type 0} {r : Reader A} {P : Spelling A} {W : Limited A} → Exact r P W → Whole r P W
 whole_of {A} {r} {P} {W} er = record {
   takes = λ end text x le e.
-    let t = er.takes end text [] x le e in
-    (subst (λ u. P (place end text) u x) (sym (t.parts ∙ append-nil t.text)) t.spells, t.within);
+      let t = er.takes end text [] x le e in
+      (subst (λ u. P (place end text) u x) (sym (t.parts ∙ append-nil t.text)) t.spells, t.within);
   again = λ end text x le h w.
-    let same : text ++ [] ≡ text = append-nil text in
-    let q : r end (text ++ []) ≡ Ok (x, []) = er.again end text [] x (subst (λ u. length u ≤ end) (sym same) le) (subst (λ u. P (place end u) text x) (sym same) h) w in
-    ap (r end) (sym same) ∙ q;
+      let same : text ++ [] ≡ text = append-nil text in
+      let q : r end (text ++ []) ≡ Ok (x, []) = er.again end text [] x (subst (λ u. length u ≤ end) (sym same) le) (subst (λ u. P (place end u) text x) (sym same) h) w in
+      ap (r end) (sym same) ∙ q;
 }
 
 record RegionTaken (end : ℕ) (bytes inside after : List ℕ) (inner : ℕ) : Type 0 where
@@ -198,16 +198,16 @@ region_takes end bytes inside after inner le e =
     elim (chosen (ltb (length mid) n) (err (Malformed (place end bytes) word.Size)) (ok (take n mid, end - length (drop n mid), drop n mid)) (ok (inside, inner, after)) p.2) [
       | inl h ↦ absurd (let k = h.1 in cc)
       | inr h ↦
-        let s = ok_is (take n mid, end - length (drop n mid), drop n mid) (inside, inner, after) h.1 in
-        let a : take n mid ≡ inside = ap (λ (z : List ℕ × ℕ × List ℕ). z.0) s in
-        let b : drop n mid ≡ after = ap (λ (z : List ℕ × ℕ × List ℕ). z.2) s in
-        let len : n ≡ length inside = omega (arith, ap length a, length-take n mid, ltb-false (length mid) n h.0) in
-        record {
-          size = t.text;
-          parts = t.parts ∙ ap (λ more. t.text ++ more) (sym (take-append-drop n mid) ∙ ap (λ x. x ++ drop n mid) a ∙ ap (λ y. inside ++ y) b);
-          number = subst (SpellsNumber (place end bytes) t.text) len t.spells;
-          ends = sym (ap (λ (z : List ℕ × ℕ × List ℕ). z.1) s) ∙ ap (λ y. end - length y) b;
-        }
+          let s = ok_is (take n mid, end - length (drop n mid), drop n mid) (inside, inner, after) h.1 in
+          let a : take n mid ≡ inside = ap (λ (z : List ℕ × ℕ × List ℕ). z.0) s in
+          let b : drop n mid ≡ after = ap (λ (z : List ℕ × ℕ × List ℕ). z.2) s in
+          let len : n ≡ length inside = omega (arith, ap length a, length-take n mid, ltb-false (length mid) n h.0) in
+          record {
+            size = t.text;
+            parts = t.parts ∙ ap (λ more. t.text ++ more) (sym (take-append-drop n mid) ∙ ap (λ x. x ++ drop n mid) a ∙ ap (λ y. inside ++ y) b);
+            number = subst (SpellsNumber (place end bytes) t.text) len t.spells;
+            ends = sym (ap (λ (z : List ℕ × ℕ × List ℕ). z.1) s) ∙ ap (λ y. end - length y) b;
+          }
     ]
 
 region_again : (end : ℕ) (size inside after : List ℕ) → length (size ++ (inside ++ after)) ≤ end → SpellsNumber (place end (size ++ (inside ++ after))) size (length inside) →
@@ -237,40 +237,40 @@ pub exact_sized : {A : Type 0} {r : Reader A} {P : Spelling A} {W : Limited A} �
 unfolding sized_at Sized Then OfLength
 exact_sized {A} {r} {P} {W} wr = record {
   takes = λ end bytes rest x le e.
-    let p = bind_ok (region_at end bytes) (λ region. r region.1 region.0 >>= λ x. ended x.0 region.1 x.1 >>= λ whole. Ok (whole, region.2)) (x, rest) e in
-    let inside = p.0.0 in
-    let inner = p.0.1 in
-    let after = p.0.2 in
-    let q = bind_ok (r inner inside) (λ x. ended x.0 inner x.1 >>= λ whole. Ok (whole, after)) (x, rest) p.2 in
-    let v = bind_ok (ended q.0.0 inner q.0.1) (λ whole. Ok (whole, after)) (x, rest) q.2 in
-    let s = ok_is (v.0, after) (x, rest) v.2 in
-    let t = region_takes end bytes inside after inner le p.1 in
-    let z = ended_is q.0.0 v.0 inner q.0.1 v.1 in
-    let is : q.0.0 ≡ x = z.same ∙ ap (λ (z : A × List ℕ). z.0) s in
-    let tail : after ≡ rest = ap (λ (z : A × List ℕ). z.1) s in
-    let read : r inner inside ≡ Ok (x, []) = q.1 ∙ ap (λ (y : A). ok (y, q.0.1)) is ∙ ap (λ ys. ok (x, ys)) z.none in
-    let fits : length inside ≤ inner = omega (arith, t.ends, ap length t.parts, length-append t.size (inside ++ after), length-append inside after) in
-    let w = wr.takes inner inside x fits read in
-    let at : place inner inside ≡ place end bytes + length t.size =
-        ap (λ k. place k inside) t.ends ∙ region_place end inside after (inside ++ after) refl ∙ sym (place_after end bytes t.size (inside ++ after) le t.parts) in
-    record {
-      text = t.size ++ inside;
-      parts = t.parts ∙ sym (append_assoc t.size inside after) ∙ ap (λ ys. (t.size ++ inside) ++ ys) tail;
-      spells = (length inside, t.size, inside, refl, t.number, (refl, subst (λ k. P k inside x) at w.0));
-      within = w.1;
-    };
+      let p = bind_ok (region_at end bytes) (λ region. r region.1 region.0 >>= λ x. ended x.0 region.1 x.1 >>= λ whole. Ok (whole, region.2)) (x, rest) e in
+      let inside = p.0.0 in
+      let inner = p.0.1 in
+      let after = p.0.2 in
+      let q = bind_ok (r inner inside) (λ x. ended x.0 inner x.1 >>= λ whole. Ok (whole, after)) (x, rest) p.2 in
+      let v = bind_ok (ended q.0.0 inner q.0.1) (λ whole. Ok (whole, after)) (x, rest) q.2 in
+      let s = ok_is (v.0, after) (x, rest) v.2 in
+      let t = region_takes end bytes inside after inner le p.1 in
+      let z = ended_is q.0.0 v.0 inner q.0.1 v.1 in
+      let is : q.0.0 ≡ x = z.same ∙ ap (λ (z : A × List ℕ). z.0) s in
+      let tail : after ≡ rest = ap (λ (z : A × List ℕ). z.1) s in
+      let read : r inner inside ≡ Ok (x, []) = q.1 ∙ ap (λ (y : A). ok (y, q.0.1)) is ∙ ap (λ ys. ok (x, ys)) z.none in
+      let fits : length inside ≤ inner = omega (arith, t.ends, ap length t.parts, length-append t.size (inside ++ after), length-append inside after) in
+      let w = wr.takes inner inside x fits read in
+      let at : place inner inside ≡ place end bytes + length t.size =
+      ap (λ k. place k inside) t.ends ∙ region_place end inside after (inside ++ after) refl ∙ sym (place_after end bytes t.size (inside ++ after) le t.parts) in
+      record {
+        text = t.size ++ inside;
+        parts = t.parts ∙ sym (append_assoc t.size inside after) ∙ ap (λ ys. (t.size ++ inside) ++ ys) tail;
+        spells = (length inside, t.size, inside, refl, t.number, (refl, subst (λ k. P k inside x) at w.0));
+        within = w.1;
+      };
   again = λ end text rest x le h w.
-    let size = h.1 in
-    let inside = h.2 in
-    let whole : text ++ rest ≡ size ++ (inside ++ rest) = ap (λ t. t ++ rest) h.3 ∙ append_assoc size inside rest in
-    let le2 : length (size ++ (inside ++ rest)) ≤ end = subst (λ t. length t ≤ end) whole le in
-    let num : SpellsNumber (place end (size ++ (inside ++ rest))) size (length inside) = subst (λ t. SpellsNumber (place end t) size (length inside)) whole (subst (SpellsNumber (place end (text ++ rest)) size) (sym h.5.0) h.4) in
-    let region : region_at end (text ++ rest) ≡ Ok (inside, end - length rest, rest) = ap (region_at end) whole ∙ region_again end size inside rest le2 num in
-    let fits : length inside ≤ end - length rest = omega (arith, length-append size (inside ++ rest), length-append inside rest) in
-    let at : place end (text ++ rest) + length size ≡ place (end - length rest) inside =
-        place_after end (text ++ rest) size (inside ++ rest) le whole ∙ sym (region_place end inside rest (inside ++ rest) refl) in
-    let read : r (end - length rest) inside ≡ Ok (x, []) = wr.again (end - length rest) inside x fits (subst (λ k. P k inside x) at h.5.1) w in
-    rw (region, read) refl;
+      let size = h.1 in
+      let inside = h.2 in
+      let whole : text ++ rest ≡ size ++ (inside ++ rest) = ap (λ t. t ++ rest) h.3 ∙ append_assoc size inside rest in
+      let le2 : length (size ++ (inside ++ rest)) ≤ end = subst (λ t. length t ≤ end) whole le in
+      let num : SpellsNumber (place end (size ++ (inside ++ rest))) size (length inside) = subst (λ t. SpellsNumber (place end t) size (length inside)) whole (subst (SpellsNumber (place end (text ++ rest)) size) (sym h.5.0) h.4) in
+      let region : region_at end (text ++ rest) ≡ Ok (inside, end - length rest, rest) = ap (region_at end) whole ∙ region_again end size inside rest le2 num in
+      let fits : length inside ≤ end - length rest = omega (arith, length-append size (inside ++ rest), length-append inside rest) in
+      let at : place end (text ++ rest) + length size ≡ place (end - length rest) inside =
+      place_after end (text ++ rest) size (inside ++ rest) le whole ∙ sym (region_place end inside rest (inside ++ rest) refl) in
+      let read : r (end - length rest) inside ≡ Ok (x, []) = wr.again (end - length rest) inside x fits (subst (λ k. P k inside x) at h.5.1) w in
+      rw (region, read) refl;
 }
 
 -- ---- bodies

@@ -193,7 +193,7 @@ more_taken : (most now : ℕ) (before : List Flat) (end : ℕ) (bytes rest text 
     ok ((y.0.0, place end bytes ∷ y.0.1), y.1) ≡ ok x → RestTaken most now before end bytes x
 more_taken most now before end bytes rest text i x y le e h o t q =
     let each : Each SpellsItem (place end bytes + length text) t.text (t.items ++ End ∷ [], y.0.1) =
-        subst (λ at. Each SpellsItem at t.text (t.items ++ End ∷ [], y.0.1)) (sym (place_after end bytes text rest le e)) t.spells in
+    subst (λ at. Each SpellsItem at t.text (t.items ++ End ∷ [], y.0.1)) (sym (place_after end bytes text rest le e)) t.spells in
     subst (RestTaken most now before end bytes) (ok_is ((y.0.0, place end bytes ∷ y.0.1), y.1) x q) (record {
       text = text ++ t.text;
       parts = e ∙ ap (λ more. text ++ more) t.parts ∙ sym (append_assoc text t.text y.1);
@@ -211,20 +211,20 @@ rest_takes most (suc n) before marks s end bytes x le e =
     let ps = parts_of before in
     let full = ltb most (length ps) in
     let p = bind_ok (item_at (may_turn ps) full end bytes) (λ i. cond (is_last (length ps) i.0) (Ok ((own_instrs ps, place end bytes ∷ []), i.1))
-        (rest_at most n (then_item ps i.0) end i.1 >>= λ y. Ok ((y.0.0, place end bytes ∷ y.0.1), y.1))) x e in
+    (rest_at most n (then_item ps i.0) end i.1 >>= λ y. Ok ((y.0.0, place end bytes ∷ y.0.1), y.1))) x e in
     let i = p.0.0 in
     let rest = p.0.1 in
     let t = (exact_item (may_turn ps) full).takes end bytes rest i le p.1 in
     elim (chosen (is_last (length ps) i) (ok ((own_instrs ps, place end bytes ∷ []), rest)) (rest_at most n (then_item ps i) end rest >>= λ y. Ok ((y.0.0, place end bytes ∷ y.0.1), y.1)) (ok x) p.2) [
       | inl h ↦ last_taken most (length marks) before marks end bytes rest t.text i x s (last_end (length ps) i h.0) t.parts t.spells h.1
       | inr h ↦
-        let q = bind_ok (rest_at most n (then_item ps i) end rest) (λ y. Ok ((y.0.0, place end bytes ∷ y.0.1), y.1)) x h.1 in
-        let f = follows ps full i (spelled_simple (place end bytes) t.text i t.spells) t.within h.0 in
-        let m = next_marked before marks s i f in
-        let again : rest_at most n (parts_of (before ++ i ∷ [])) end rest ≡ Ok q.0 = ap (λ qs. rest_at most n qs end rest) (parts_of-push before i) ∙ q.1 in
-        let r = rest_takes most n (before ++ i ∷ []) m.marks m.stands end rest q.0 (shorter end bytes t.text rest le t.parts) again in
-        let r2 = subst (λ k. RestTaken most k (before ++ i ∷ []) end rest q.0) m.count r in
-        more_taken most (length marks) before end bytes rest t.text i x q.0 le t.parts t.spells (may_open most ps (length marks) i (some_marks before marks ps s) t.within) r2 q.2
+          let q = bind_ok (rest_at most n (then_item ps i) end rest) (λ y. Ok ((y.0.0, place end bytes ∷ y.0.1), y.1)) x h.1 in
+          let f = follows ps full i (spelled_simple (place end bytes) t.text i t.spells) t.within h.0 in
+          let m = next_marked before marks s i f in
+          let again : rest_at most n (parts_of (before ++ i ∷ [])) end rest ≡ Ok q.0 = ap (λ qs. rest_at most n qs end rest) (parts_of-push before i) ∙ q.1 in
+          let r = rest_takes most n (before ++ i ∷ []) m.marks m.stands end rest q.0 (shorter end bytes t.text rest le t.parts) again in
+          let r2 = subst (λ k. RestTaken most k (before ++ i ∷ []) end rest q.0) m.count r in
+          more_taken most (length marks) before end bytes rest t.text i x q.0 le t.parts t.spells (may_open most ps (length marks) i (some_marks before marks ps s) t.within) r2 q.2
     ]
 
 own_of : (before : List Flat) (is : List Instr) → before ≡ flat is → parts_of before ≡ own is ∷ []
@@ -255,11 +255,11 @@ rest_again most (suc n) (i ∷ items) before marks s end text rest (p ∷ ps) is
     let here : SpellsItem (place end (a ++ (b ++ rest))) a i = subst (λ t. SpellsItem (place end t) a i) whole h.4 in
     let ws = stands_so most qs (length marks) i (some_marks before marks qs s) f.0 o.0 in
     let read : item_at (may_turn qs) (ltb most (length qs)) end (text ++ rest) ≡ Ok (i, b ++ rest) =
-        ap (item_at (may_turn qs) (ltb most (length qs)) end) whole ∙ (exact_item (may_turn qs) (ltb most (length qs))).again end a (b ++ rest) i (subst (λ t. length t ≤ end) whole le) here ws in
+    ap (item_at (may_turn qs) (ltb most (length qs)) end) whole ∙ (exact_item (may_turn qs) (ltb most (length qs))).again end a (b ++ rest) i (subst (λ t. length t ≤ end) whole le) here ws in
     let m = next_marked before marks s i f.0 in
     let each : Each SpellsItem (place end (b ++ rest)) b (items ++ End ∷ [], ps) = subst (λ at. Each SpellsItem at b (items ++ End ∷ [], ps)) (place_after end (text ++ rest) a (b ++ rest) le whole) h.5 in
     let others = rest_again most n items (before ++ i ∷ []) m.marks m.stands end b rest ps is (shorter end (text ++ rest) a (b ++ rest) le whole) (omega arith) each
-        (append_assoc before (i ∷ []) items ∙ w) (subst (λ rs. Follow rs items) (sym (parts_of-push before i)) f.1) (subst (λ k. OpenAtMost most k items) (sym m.count) o.1) in
+    (append_assoc before (i ∷ []) items ∙ w) (subst (λ rs. Follow rs items) (sym (parts_of-push before i)) f.1) (subst (λ k. OpenAtMost most k items) (sym m.count) o.1) in
     let next : rest_at most n (then_item qs i) end (b ++ rest) ≡ Ok ((is, ps), rest) = ap (λ rs. rest_at most n rs end (b ++ rest)) (sym (parts_of-push before i)) ∙ others in
     rw (read, not_last qs i f.0, next) (ap (λ k. ok ((is, k ∷ ps), rest)) (sym h.0))
 
@@ -280,21 +280,21 @@ pub exact_expression : (most : ℕ) → Exact (expression_at most) SpellsExpress
 unfolding expression_at SpellsExpression
 exact_expression most = record {
   takes = λ end bytes rest x le e.
-    let begun : rest_at most (length bytes) (parts_of []) end bytes ≡ Ok (x, rest) = ap (λ qs. rest_at most (length bytes) qs end bytes) (parts_of-none [] refl) ∙ e in
-    let t = rest_takes most (length bytes) [] [] none_stand end bytes (x, rest) le begun in
-    record {
-      text = t.text;
-      parts = t.parts;
-      spells = subst (λ items. Each SpellsItem (place end bytes) t.text (items ++ End ∷ [], x.1)) t.whole t.spells;
-      within = subst (OpenAtMost most 0) t.whole t.nested;
-    };
+      let begun : rest_at most (length bytes) (parts_of []) end bytes ≡ Ok (x, rest) = ap (λ qs. rest_at most (length bytes) qs end bytes) (parts_of-none [] refl) ∙ e in
+      let t = rest_takes most (length bytes) [] [] none_stand end bytes (x, rest) le begun in
+      record {
+        text = t.text;
+        parts = t.parts;
+        spells = subst (λ items. Each SpellsItem (place end bytes) t.text (items ++ End ∷ [], x.1)) t.whole t.spells;
+        within = subst (OpenAtMost most 0) t.whole t.nested;
+      };
   again = λ end text rest x le h w.
-    let fit = items_fit (place end (text ++ rest)) text (flat_body x.0) x.1 h in
-    let many : length (flat x.0) < length (text ++ rest) = omega (arith, fit, length-append (flat x.0) (End ∷ []), length-append text rest) in
-    let mine : parts_of [] ≡ own [] ∷ [] = parts_of-none [] refl in
-    let f : Follow (parts_of []) (flat x.0) = subst (λ qs. Follow qs (flat x.0)) (sym mine) (follow-flat x.0 (own [] ∷ []) (omega arith)) in
-    ap (λ qs. rest_at most (length (text ++ rest)) qs end (text ++ rest)) (sym mine) ∙
-    rest_again most (length (text ++ rest)) (flat x.0) [] [] none_stand end text rest x.1 x.0 le many h refl f w;
+      let fit = items_fit (place end (text ++ rest)) text (flat_body x.0) x.1 h in
+      let many : length (flat x.0) < length (text ++ rest) = omega (arith, fit, length-append (flat x.0) (End ∷ []), length-append text rest) in
+      let mine : parts_of [] ≡ own [] ∷ [] = parts_of-none [] refl in
+      let f : Follow (parts_of []) (flat x.0) = subst (λ qs. Follow qs (flat x.0)) (sym mine) (follow-flat x.0 (own [] ∷ []) (omega arith)) in
+      ap (λ qs. rest_at most (length (text ++ rest)) qs end (text ++ rest)) (sym mine) ∙
+      rest_again most (length (text ++ rest)) (flat x.0) [] [] none_stand end text rest x.1 x.0 le many h refl f w;
 }
 
 pub exact_instrs : (most : ℕ) → Exact (instrs_at most) SpellsInstrs (NestsAtMost most)

@@ -59,38 +59,38 @@ pub exact_then : {A B : Type 0} {r : Reader A} {P : Spelling A} {W : Limited A} 
 unfolding then_at Then
 exact_then {A} {B} {r} {P} {W} {s} {Q} {V} {U} er es sp = record {
   takes = λ end bytes rest y le e.
-    let b = bind_ok (r end bytes) (λ x. s x.0 end x.1) (y, rest) e in
-    let x = b.0.0 in
-    let mid = b.0.1 in
-    let t = er.takes end bytes mid x le b.1 in
-    let u = (es x).takes end mid rest y (shorter end bytes t.text mid le t.parts) b.2 in
-    let q : Q x (place end bytes + length t.text) u.text y = subst (λ at. Q x at u.text y) (sym (place_after end bytes t.text mid le t.parts)) u.spells in
-    record {
-      text = t.text ++ u.text;
-      parts = t.parts ∙ ap (λ more. t.text ++ more) u.parts ∙ sym (append_assoc t.text u.text rest);
-      spells = (x, t.text, u.text, refl, t.spells, q);
-      within = sp.join x (place end bytes + length t.text) u.text y q t.within u.within;
-    };
+      let b = bind_ok (r end bytes) (λ x. s x.0 end x.1) (y, rest) e in
+      let x = b.0.0 in
+      let mid = b.0.1 in
+      let t = er.takes end bytes mid x le b.1 in
+      let u = (es x).takes end mid rest y (shorter end bytes t.text mid le t.parts) b.2 in
+      let q : Q x (place end bytes + length t.text) u.text y = subst (λ at. Q x at u.text y) (sym (place_after end bytes t.text mid le t.parts)) u.spells in
+      record {
+        text = t.text ++ u.text;
+        parts = t.parts ∙ ap (λ more. t.text ++ more) u.parts ∙ sym (append_assoc t.text u.text rest);
+        spells = (x, t.text, u.text, refl, t.spells, q);
+        within = sp.join x (place end bytes + length t.text) u.text y q t.within u.within;
+      };
   again = λ end text rest y le h w.
-    let x = h.0 in
-    let a = h.1 in
-    let b = h.2 in
-    let whole : text ++ rest ≡ a ++ (b ++ rest) = ap (λ t. t ++ rest) h.3 ∙ append_assoc a b rest in
-    let ws = sp.split x (place end (text ++ rest) + length a) b y h.5 w in
-    let le2 : length (a ++ (b ++ rest)) ≤ end = subst (λ t. length t ≤ end) whole le in
-    let pa : P (place end (a ++ (b ++ rest))) a x = subst (λ t. P (place end t) a x) whole h.4 in
-    let first : r end (text ++ rest) ≡ Ok (x, b ++ rest) = ap (r end) whole ∙ er.again end a (b ++ rest) x le2 pa ws.0 in
-    let le3 : length (b ++ rest) ≤ end = shorter end (text ++ rest) a (b ++ rest) le whole in
-    let qb : Q x (place end (b ++ rest)) b y = subst (λ at. Q x at b y) (place_after end (text ++ rest) a (b ++ rest) le whole) h.5 in
-    ap (λ v. v >>= λ z. s z.0 end z.1) first ∙ (es x).again end b rest y le3 qb ws.1;
+      let x = h.0 in
+      let a = h.1 in
+      let b = h.2 in
+      let whole : text ++ rest ≡ a ++ (b ++ rest) = ap (λ t. t ++ rest) h.3 ∙ append_assoc a b rest in
+      let ws = sp.split x (place end (text ++ rest) + length a) b y h.5 w in
+      let le2 : length (a ++ (b ++ rest)) ≤ end = subst (λ t. length t ≤ end) whole le in
+      let pa : P (place end (a ++ (b ++ rest))) a x = subst (λ t. P (place end t) a x) whole h.4 in
+      let first : r end (text ++ rest) ≡ Ok (x, b ++ rest) = ap (r end) whole ∙ er.again end a (b ++ rest) x le2 pa ws.0 in
+      let le3 : length (b ++ rest) ≤ end = shorter end (text ++ rest) a (b ++ rest) le whole in
+      let qb : Q x (place end (b ++ rest)) b y = subst (λ at. Q x at b y) (place_after end (text ++ rest) a (b ++ rest) le whole) h.5 in
+      ap (λ v. v >>= λ z. s z.0 end z.1) first ∙ (es x).again end b rest y le3 qb ws.1;
 }
 
 pub exact_done : {A : Type 0} (x : A) → Exact (done_at x) (Done x) Free
 unfolding done_at Done
 exact_done {A} x = record {
   takes = λ end bytes rest y le e.
-    let p = ok_is (x, bytes) (y, rest) e in
-    record { text = []; parts = ap (λ (z : A × List ℕ). z.1) p; spells = (refl, sym (ap (λ (z : A × List ℕ). z.0) p)); within = tt };
+      let p = ok_is (x, bytes) (y, rest) e in
+      record { text = []; parts = ap (λ (z : A × List ℕ). z.1) p; spells = (refl, sym (ap (λ (z : A × List ℕ). z.0) p)); within = tt };
   again = λ end text rest y le h w. rw (h.0, h.1) refl;
 }
 
@@ -107,9 +107,9 @@ pub exact_number : Exact number_at SpellsNumber Free
 unfolding number_at SpellsNumber
 exact_number = record {
   takes = λ end bytes rest n le e.
-    let k = number_ok end (place end bytes) (u32_at bytes) (n, rest) e in
-    let t = u32_takes bytes (n, rest) k in
-    record { text = t.text; parts = t.parts; spells = t.spells; within = tt };
+      let k = number_ok end (place end bytes) (u32_at bytes) (n, rest) e in
+      let t = u32_takes bytes (n, rest) k in
+      record { text = t.text; parts = t.parts; spells = t.spells; within = tt };
   again = λ end text rest n le h w. ap (of_number end (place end (text ++ rest))) (u32_again text rest n h);
 }
 
@@ -133,14 +133,14 @@ pub exact_byte : {A : Type 0} (f : ℕ → ℕ → Result A DecodeFault) (R : �
 unfolding of_byte
 exact_byte {A} f R there back = record {
   takes = λ end bytes rest x le e.
-    let p = bind_ok (byte_at end bytes) (λ b. f (place end bytes) b.0 >>= λ t. Ok (t, b.1)) (x, rest) e in
-    let q = bind_ok (f (place end bytes) p.0.0) (λ t. Ok (t, p.0.1)) (x, rest) p.2 in
-    let s = ok_is (q.0, p.0.1) (x, rest) q.2 in
-    let is = (byte_taken end bytes p.0 p.1).is in
-    record { text = p.0.0 ∷ []; parts = is ∙ ap (λ (z : A × List ℕ). p.0.0 ∷ z.1) s; spells = (p.0.0, refl, subst (R p.0.0) (ap (λ (z : A × List ℕ). z.0) s) (there (place end bytes) p.0.0 q.0 q.1)); within = tt };
+      let p = bind_ok (byte_at end bytes) (λ b. f (place end bytes) b.0 >>= λ t. Ok (t, b.1)) (x, rest) e in
+      let q = bind_ok (f (place end bytes) p.0.0) (λ t. Ok (t, p.0.1)) (x, rest) p.2 in
+      let s = ok_is (q.0, p.0.1) (x, rest) q.2 in
+      let is = (byte_taken end bytes p.0 p.1).is in
+      record { text = p.0.0 ∷ []; parts = is ∙ ap (λ (z : A × List ℕ). p.0.0 ∷ z.1) s; spells = (p.0.0, refl, subst (R p.0.0) (ap (λ (z : A × List ℕ). z.0) s) (there (place end bytes) p.0.0 q.0 q.1)); within = tt };
   again = λ end text rest x le h w.
-    let b = h.0 in
-    rw h.1 (rw (byte_again end b rest) (rw (back (place end (b ∷ rest)) b x h.2) refl));
+      let b = h.0 in
+      rw h.1 (rw (byte_again end b rest) (rw (back (place end (b ∷ rest)) b x h.2) refl));
 }
 
 pub exact_as : {A : Type 0} {r : Reader A} {P Q : Spelling A} {W : Limited A} → Exact r P W →
@@ -155,25 +155,25 @@ pub exact_tagged : {A : Type 0} {f : ℕ → ℕ → Reader A} {K : ℕ → Spel
 unfolding tagged_at Tagged
 exact_tagged {A} {f} {K} {W} ef = record {
   takes = λ end bytes rest x le e.
-    let p = bind_ok (byte_at end bytes) (λ b. f (place end bytes) b.0 end b.1) (x, rest) e in
-    let b = p.0.0 in
-    let bs = p.0.1 in
-    let is : bytes ≡ (b ∷ []) ++ bs = (byte_taken end bytes p.0 p.1).is in
-    let t = (ef (place end bytes) b).takes end bs rest x (shorter end bytes (b ∷ []) bs le is) p.2 in
-    record {
-      text = b ∷ t.text;
-      parts = is ∙ ap (λ more. b ∷ more) t.parts;
-      spells = (b, t.text, refl, subst (λ at. K b at t.text x) (sym (place_after end bytes (b ∷ []) bs le is)) t.spells);
-      within = t.within;
-    };
+      let p = bind_ok (byte_at end bytes) (λ b. f (place end bytes) b.0 end b.1) (x, rest) e in
+      let b = p.0.0 in
+      let bs = p.0.1 in
+      let is : bytes ≡ (b ∷ []) ++ bs = (byte_taken end bytes p.0 p.1).is in
+      let t = (ef (place end bytes) b).takes end bs rest x (shorter end bytes (b ∷ []) bs le is) p.2 in
+      record {
+        text = b ∷ t.text;
+        parts = is ∙ ap (λ more. b ∷ more) t.parts;
+        spells = (b, t.text, refl, subst (λ at. K b at t.text x) (sym (place_after end bytes (b ∷ []) bs le is)) t.spells);
+        within = t.within;
+      };
   again = λ end text rest x le h w.
-    let b = h.0 in
-    let u = h.1 in
-    let whole : text ++ rest ≡ (b ∷ []) ++ (u ++ rest) = ap (λ t. t ++ rest) h.2 in
-    let k : K b (place end (u ++ rest)) u x = subst (λ at. K b at u x) (place_after end (text ++ rest) (b ∷ []) (u ++ rest) le whole) h.3 in
-    let le2 : length (u ++ rest) ≤ end = shorter end (text ++ rest) (b ∷ []) (u ++ rest) le whole in
-    let first : byte_at end (text ++ rest) ≡ Ok (b, u ++ rest) = ap (byte_at end) whole ∙ byte_again end b (u ++ rest) in
-    ap (λ v. v >>= λ z. f (place end (text ++ rest)) z.0 end z.1) first ∙ (ef (place end (text ++ rest)) b).again end u rest x le2 k w;
+      let b = h.0 in
+      let u = h.1 in
+      let whole : text ++ rest ≡ (b ∷ []) ++ (u ++ rest) = ap (λ t. t ++ rest) h.2 in
+      let k : K b (place end (u ++ rest)) u x = subst (λ at. K b at u x) (place_after end (text ++ rest) (b ∷ []) (u ++ rest) le whole) h.3 in
+      let le2 : length (u ++ rest) ≤ end = shorter end (text ++ rest) (b ∷ []) (u ++ rest) le whole in
+      let first : byte_at end (text ++ rest) ≡ Ok (b, u ++ rest) = ap (byte_at end) whole ∙ byte_again end b (u ++ rest) in
+      ap (λ v. v >>= λ z. f (place end (text ++ rest)) z.0 end z.1) first ∙ (ef (place end (text ++ rest)) b).again end u rest x le2 k w;
 }
 
 -- a value put into another

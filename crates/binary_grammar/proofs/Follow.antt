@@ -77,7 +77,7 @@ part-follows : (p : Part) (is : List Instr) → FollowsAll is → (ps : List Par
 part-follows p is a ps h =
     let some : 0 < length (ps ++ p ∷ []) = omega (arith, length-append ps (p ∷ [])) in
     let two : 1 < length (then_items (ps ++ p ∷ []) (flat is)) =
-        omega (arith, ap length (then_items-flat is (ps ++ p ∷ []) some), with_last-length (with_instrs is) (ps ++ p ∷ []), length-append ps (p ∷ [])) in
+    omega (arith, ap length (then_items-flat is (ps ++ p ∷ []) some), with_last-length (with_instrs is) (ps ++ p ∷ []), length-append ps (p ∷ [])) in
     follow-append (ps ++ p ∷ []) (flat is) (End ∷ []) (a (ps ++ p ∷ []) some) (two, tt)
 
 follows-Block : (ty : Option ValType) (is : List Instr) → FollowsAll is → Follows (instr.Block ty is)
@@ -97,7 +97,7 @@ follows-If_Else ty is others a b ps h =
     let turns : may_turn (then_items (ps ++ p ∷ []) (flat is)) ≡ true = ap may_turn here ∙ may_turn-push ps (with_instrs is p) in
     let there : then_item (then_items (ps ++ p ∷ []) (flat is)) Else ≡ ps ++ turned (with_instrs is p) ∷ [] = ap (with_last turned) here ∙ with_last-push turned ps (with_instrs is p) in
     let after : Follow (then_item (then_items (ps ++ p ∷ []) (flat is)) Else) (flat others ++ End ∷ []) =
-        subst (λ qs. Follow qs (flat others ++ End ∷ [])) (sym there) (part-follows (turned (with_instrs is p)) others b ps h) in
+    subst (λ qs. Follow qs (flat others ++ End ∷ [])) (sym there) (part-follows (turned (with_instrs is p)) others b ps h) in
     subst (Follow ps) (sym (flat_of-If_Else ty is others)) (tt, follow-append (ps ++ p ∷ []) (flat is) (Else ∷ (flat others ++ End ∷ [])) (a (ps ++ p ∷ []) some) (turns, after))
 
 follows-layer : (y : Instr-F ((i : Instr) × Follows i)) → Follows (roll-Instr (map-Instr ((i : Instr) × Follows i) Instr (λ e. e.0) y))

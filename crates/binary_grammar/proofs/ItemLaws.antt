@@ -36,24 +36,24 @@ pub exact_word32 : Exact word32_at SpellsWord32 Free
 unfolding word32_at SpellsWord32
 exact_word32 = record {
   takes = λ end bytes rest n le e.
-    let p = bind_ok (of_number end (place end bytes) (s32_at bytes)) (λ x. Ok (cast_unsigned w32 x.0, x.1)) (n, rest) e in
-    let t = s32_takes bytes p.0 (number_ok end (place end bytes) (s32_at bytes) p.0 p.1) in
-    let q = ok_is (cast_unsigned w32 p.0.0, p.0.1) (n, rest) p.2 in
-    record { text = t.text; parts = t.parts ∙ ap (λ (z : ℕ × List ℕ). t.text ++ z.1) q; spells = (p.0.0, t.spells, sym (ap (λ (z : ℕ × List ℕ). z.0) q)); within = tt };
+      let p = bind_ok (of_number end (place end bytes) (s32_at bytes)) (λ x. Ok (cast_unsigned w32 x.0, x.1)) (n, rest) e in
+      let t = s32_takes bytes p.0 (number_ok end (place end bytes) (s32_at bytes) p.0 p.1) in
+      let q = ok_is (cast_unsigned w32 p.0.0, p.0.1) (n, rest) p.2 in
+      record { text = t.text; parts = t.parts ∙ ap (λ (z : ℕ × List ℕ). t.text ++ z.1) q; spells = (p.0.0, t.spells, sym (ap (λ (z : ℕ × List ℕ). z.0) q)); within = tt };
   again = λ end text rest n le h w.
-    rw (s32_again text rest h.0 h.1) (ap (λ k. ok (k, rest)) (sym h.2));
+      rw (s32_again text rest h.0 h.1) (ap (λ k. ok (k, rest)) (sym h.2));
 }
 
 pub exact_word64 : Exact word64_at SpellsWord64 Free
 unfolding word64_at SpellsWord64
 exact_word64 = record {
   takes = λ end bytes rest n le e.
-    let p = bind_ok (of_number end (place end bytes) (s64_at bytes)) (λ x. Ok (cast_unsigned w64 x.0, x.1)) (n, rest) e in
-    let t = s64_takes bytes p.0 (number_ok end (place end bytes) (s64_at bytes) p.0 p.1) in
-    let q = ok_is (cast_unsigned w64 p.0.0, p.0.1) (n, rest) p.2 in
-    record { text = t.text; parts = t.parts ∙ ap (λ (z : ℕ × List ℕ). t.text ++ z.1) q; spells = (p.0.0, t.spells, sym (ap (λ (z : ℕ × List ℕ). z.0) q)); within = tt };
+      let p = bind_ok (of_number end (place end bytes) (s64_at bytes)) (λ x. Ok (cast_unsigned w64 x.0, x.1)) (n, rest) e in
+      let t = s64_takes bytes p.0 (number_ok end (place end bytes) (s64_at bytes) p.0 p.1) in
+      let q = ok_is (cast_unsigned w64 p.0.0, p.0.1) (n, rest) p.2 in
+      record { text = t.text; parts = t.parts ∙ ap (λ (z : ℕ × List ℕ). t.text ++ z.1) q; spells = (p.0.0, t.spells, sym (ap (λ (z : ℕ × List ℕ). z.0) q)); within = tt };
   again = λ end text rest n le h w.
-    rw (s64_again text rest h.0 h.1) (ap (λ k. ok (k, rest)) (sym h.2));
+      rw (s64_again text rest h.0 h.1) (ap (λ k. ok (k, rest)) (sym h.2));
 }
 
 -- ---- simple instructions

@@ -111,7 +111,7 @@ sections_again most (suc n) d end text (s ∷ ss) le few h st w =
     let le2 : length (a ++ b) ≤ end = subst (λ t. length t ≤ end) h.2 le in
     let here : SpellsSection (place end (a ++ b)) a s = subst (λ t. SpellsSection (place end t) a s) h.2 h.3 in
     let read : section_at most d.last (length d.declared) end text ≡ Ok (s, b) =
-        ap (section_at most d.last (length d.declared) end) h.2 ∙ (exact_section most d.last (length d.declared)).again end a b s le2 here ((w.0, st.1), st.0) in
+    ap (section_at most d.last (length d.declared) end) h.2 ∙ (exact_section most d.last (length d.declared)).again end a b s le2 here ((w.0, st.1), st.0) in
     let some = some_section (place end text) a s h.3 in
     let left : length b ≤ n = omega (arith, ap length h.2, length-append a b) in
     let turn : InTurn (place end b) b ss = subst (λ at. InTurn at b ss) (place_after end text a b le h.2) h.4 in

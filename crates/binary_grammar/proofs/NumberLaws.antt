@@ -288,9 +288,10 @@ found r Spells most reads text from to x rest le len e =
 pub missed : {A : Type 0} (r : List ℕ → Result (A × List ℕ) LebFault) (Spells : List ℕ → A → Type 0) (most : ℕ) → IsReader r Spells most →
     (text : List ℕ) (from : ℕ) (f : LebFault) → r text ≡ Err f → ReadsNumber Spells most text from (Err f)
 missed r Spells most reads text from End e = reads.end text e
-missed {A} r Spells most reads text from Number e =
-    (λ front rest x p s. let k : r text ≡ Ok (x, rest) = ap r p ∙ reads.again front rest x s in absurd cc,
-     λ h. let k = reads.ends text h in absurd cc)
+missed {A} r Spells most reads text from Number e = (
+  λ front rest x p s. let k : r text ≡ Ok (x, rest) = ap r p ∙ reads.again front rest x s in absurd cc,
+  λ h. let k = reads.ends text h in absurd cc,
+)
 
 -- what a front spells is read
 pub spelled : {A : Type 0} (r : List ℕ → Result (A × List ℕ) LebFault) (Spells : List ℕ → A → Type 0) (most : ℕ) → IsReader r Spells most →

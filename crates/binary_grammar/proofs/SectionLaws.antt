@@ -44,23 +44,23 @@ SegmentNests nesting s = NestsAtMost nesting s.offset
 exact_global : (nesting : ℕ) → Exact (global_at nesting) SpellsGlobal (GlobalNests nesting)
 unfolding global_at SpellsGlobal Done
 exact_global nesting = exact_then exact_global_type (λ t. exact_then (exact_instrs nesting) (λ init. exact_done (record { ty = t; init = init })) (record {
-    split = λ init at text y q u. (subst (GlobalNests nesting) q.1 u, tt);
-    join = λ init at text y q w v. subst (GlobalNests nesting) (sym q.1) w;
-  })) (none_limited (GlobalNests nesting))
+  split = λ init at text y q u. (subst (GlobalNests nesting) q.1 u, tt);
+  join = λ init at text y q w v. subst (GlobalNests nesting) (sym q.1) w;
+})) (none_limited (GlobalNests nesting))
 
 exact_elem : (nesting : ℕ) → Exact (elem_at nesting) SpellsElem (ElemNests nesting)
 unfolding elem_at SpellsElem Then Done
 exact_elem nesting = exact_then exact_number (λ table. exact_then (exact_instrs nesting) (λ offset. exact_then (list_free exact_number) (λ funcs. exact_done (record { table = table; offset = offset; funcs = funcs })) free) (record {
-    split = λ offset at text y q u. (subst (ElemNests nesting) q.5.1 u, tt);
-    join = λ offset at text y q w v. subst (ElemNests nesting) (sym q.5.1) w;
-  })) (none_limited (ElemNests nesting))
+  split = λ offset at text y q u. (subst (ElemNests nesting) q.5.1 u, tt);
+  join = λ offset at text y q w v. subst (ElemNests nesting) (sym q.5.1) w;
+})) (none_limited (ElemNests nesting))
 
 exact_segment : (nesting : ℕ) → Exact (segment_at nesting) SpellsSegment (SegmentNests nesting)
 unfolding segment_at SpellsSegment Then Done
 exact_segment nesting = exact_then exact_number (λ memory. exact_then (exact_instrs nesting) (λ offset. exact_then exact_bytes (λ contents. exact_done (record { memory = memory; offset = offset; bytes = contents })) free) (record {
-    split = λ offset at text y q u. (subst (SegmentNests nesting) q.5.1 u, tt);
-    join = λ offset at text y q w v. subst (SegmentNests nesting) (sym q.5.1) w;
-  })) (none_limited (SegmentNests nesting))
+  split = λ offset at text y q u. (subst (SegmentNests nesting) q.5.1 u, tt);
+  join = λ offset at text y q w v. subst (SegmentNests nesting) (sym q.5.1) w;
+})) (none_limited (SegmentNests nesting))
 
 -- ---- contents
 
@@ -151,18 +151,18 @@ exact_start : (most : Bounds) (declared : ℕ) → Exact start_at (λ at text s.
 unfolding start_at
 exact_start most declared = record {
   takes = λ end bytes rest s le e.
-    let p = bind_ok (number_at end bytes) (λ x. Ok (section.Start x.0 (place end bytes), x.1)) (s, rest) e in
-    let q = ok_is (section.Start p.0.0 (place end bytes), p.0.1) (s, rest) p.2 in
-    let is : section.Start p.0.0 (place end bytes) ≡ s = ap (λ (z : Section × List ℕ). z.0) q in
-    let t = exact_number.takes end bytes p.0.1 p.0.0 le p.1 in
-    record {
-      text = t.text;
-      parts = t.parts ∙ ap (λ (z : Section × List ℕ). t.text ++ z.1) q;
-      spells = (p.0.0, t.spells, sym is);
-      within = subst (Fits most declared) is (tt, tt);
-    };
+      let p = bind_ok (number_at end bytes) (λ x. Ok (section.Start x.0 (place end bytes), x.1)) (s, rest) e in
+      let q = ok_is (section.Start p.0.0 (place end bytes), p.0.1) (s, rest) p.2 in
+      let is : section.Start p.0.0 (place end bytes) ≡ s = ap (λ (z : Section × List ℕ). z.0) q in
+      let t = exact_number.takes end bytes p.0.1 p.0.0 le p.1 in
+      record {
+        text = t.text;
+        parts = t.parts ∙ ap (λ (z : Section × List ℕ). t.text ++ z.1) q;
+        spells = (p.0.0, t.spells, sym is);
+        within = subst (Fits most declared) is (tt, tt);
+      };
   again = λ end text rest s le h w.
-    rw (exact_number.again end text rest h.0 le h.1 tt) (ap (λ t. ok (t, rest)) (sym h.2));
+      rw (exact_number.again end text rest h.0 le h.1 tt) (ap (λ t. ok (t, rest)) (sym h.2));
 }
 
 -- a vector of bodies, read as entries behind their count
@@ -182,17 +182,17 @@ bodies_read most declared end bytes rest s le e =
     let mid = p.0.1 in
     elim (chosen (eqb n declared) (entries_at r n end mid >>= λ x. Ok (section.Bodies x.0.0, x.1)) (err (Malformed (place end bytes) word.Count)) (ok (s, rest)) p.2) [
       | inl h ↦
-        let q = bind_ok (entries_at r n end mid) (λ x. Ok (section.Bodies x.0.0, x.1)) (s, rest) h.1 in
-        let v = ok_is (section.Bodies q.0.0.0, q.0.1) (s, rest) q.2 in
-        let t = exact_number.takes end bytes mid n le p.1 in
-        let u = (exact_entries (exact_body most.locals most.nesting) n).takes end mid q.0.1 q.0.0 (shorter end bytes t.text mid le t.parts) q.1 in
-        record {
-          bodies = q.0.0.0;
-          places = q.0.0.1;
-          vector = ap (λ w. w >>= λ x. entries_at r x.0 end x.1) p.1 ∙ q.1 ∙ ap (λ (z : Section × List ℕ). ok (q.0.0, z.1)) v;
-          count = u.spells.0 ∙ eqb-true n declared h.0;
-          is = sym (ap (λ (z : Section × List ℕ). z.0) v);
-        }
+          let q = bind_ok (entries_at r n end mid) (λ x. Ok (section.Bodies x.0.0, x.1)) (s, rest) h.1 in
+          let v = ok_is (section.Bodies q.0.0.0, q.0.1) (s, rest) q.2 in
+          let t = exact_number.takes end bytes mid n le p.1 in
+          let u = (exact_entries (exact_body most.locals most.nesting) n).takes end mid q.0.1 q.0.0 (shorter end bytes t.text mid le t.parts) q.1 in
+          record {
+            bodies = q.0.0.0;
+            places = q.0.0.1;
+            vector = ap (λ w. w >>= λ x. entries_at r x.0 end x.1) p.1 ∙ q.1 ∙ ap (λ (z : Section × List ℕ). ok (q.0.0, z.1)) v;
+            count = u.spells.0 ∙ eqb-true n declared h.0;
+            is = sym (ap (λ (z : Section × List ℕ). z.0) v);
+          }
       | inr h ↦ absurd (let k = h.1 in cc)
     ]
 
@@ -205,7 +205,7 @@ bodies_again most declared end text rest bs ps le h w e =
     let b = h.2 in
     let whole : text ++ rest ≡ a ++ (b ++ rest) = ap (λ t. t ++ rest) h.3 ∙ append_assoc a b rest in
     let num : number_at end (text ++ rest) ≡ Ok (n, b ++ rest) =
-        ap (number_at end) whole ∙ exact_number.again end a (b ++ rest) n (subst (λ t. length t ≤ end) whole le) (subst (λ t. SpellsNumber (place end t) a n) whole h.4) tt in
+    ap (number_at end) whole ∙ exact_number.again end a (b ++ rest) n (subst (λ t. length t ≤ end) whole le) (subst (λ t. SpellsNumber (place end t) a n) whole h.4) tt in
     let many : Many SpellsBody n (place end (b ++ rest)) b (bs, ps) = subst (λ at. Many SpellsBody n at b (bs, ps)) (place_after end (text ++ rest) a (b ++ rest) le whole) h.5 in
     let go = (exact_entries (exact_body most.locals most.nesting) n).again end b rest (bs, ps) (shorter end (text ++ rest) a (b ++ rest) le whole) many w in
     let same : eqb n declared ≡ true = eq-eqb n declared (sym h.5.0 ∙ e) in
@@ -214,12 +214,12 @@ bodies_again most declared end text rest bs ps le h w e =
 exact_bodies : (most : Bounds) (declared : ℕ) → Exact (bodies_at most declared) (λ at text s. (x : List Body × List ℕ) × SpellsVector SpellsBody at text x × (s ≡ section.Bodies x.0)) (Fits most declared)
 exact_bodies most declared = record {
   takes = λ end bytes rest s le e.
-    let b = bodies_read most declared end bytes rest s le e in
-    let t = (exact_vector (exact_body most.locals most.nesting)).takes end bytes rest (b.bodies, b.places) le b.vector in
-    record { text = t.text; parts = t.parts; spells = ((b.bodies, b.places), t.spells, b.is); within = subst (Fits most declared) (sym b.is) (t.within, b.count) };
+      let b = bodies_read most declared end bytes rest s le e in
+      let t = (exact_vector (exact_body most.locals most.nesting)).takes end bytes rest (b.bodies, b.places) le b.vector in
+      record { text = t.text; parts = t.parts; spells = ((b.bodies, b.places), t.spells, b.is); within = subst (Fits most declared) (sym b.is) (t.within, b.count) };
   again = λ end text rest s le h w.
-    let f = subst (Fits most declared) h.2 w in
-    bodies_again most declared end text rest h.0.0 h.0.1 le h.1 f.0 f.1 ∙ ap (λ t. ok (t, rest)) (sym h.2);
+      let f = subst (Fits most declared) h.2 w in
+      bodies_again most declared end text rest h.0.0 h.0.1 le h.1 f.0 f.1 ∙ ap (λ t. ok (t, rest)) (sym h.2);
 }
 
 custom_fits : (most : Bounds) (declared at : ℕ) (text : List ℕ) (s : Section) → OfId 0 at text s → Fits most declared s
@@ -244,51 +244,51 @@ contents_takes : (most : Bounds) (declared id end : ℕ) (text : List ℕ) (s : 
 unfolding contents_at SpellsContents
 contents_takes most declared id end text s small le e =
     elim (chosen (eqb id 0) (custom_at end text) (cond (eqb id 1) (types_at most end text) (cond (eqb id 2) (imports_at most end text) (cond (eqb id 3) (funcs_at most end text) (cond (eqb id 4) (tables_at end text) (cond (eqb id 5) (memories_at end text) (cond (eqb id 6) (globals_at most end text) (cond (eqb id 7) (exports_at end text) (cond (eqb id 8) (start_at end text) (cond (eqb id 9) (elems_at most end text) (cond (eqb id 10) (bodies_at most declared end text) (segments_at most end text))))))))))) (ok (s, [])) e) [
-    | inl h ↦ let o = custom_takes end text s le h.1 in ((eqb-true id 0 h.0 ∙ o.0, o.1), custom_fits most declared (place end text) text s o)
-    | inr n0 ↦
-      elim (chosen (eqb id 1) (types_at most end text) (cond (eqb id 2) (imports_at most end text) (cond (eqb id 3) (funcs_at most end text) (cond (eqb id 4) (tables_at end text) (cond (eqb id 5) (memories_at end text) (cond (eqb id 6) (globals_at most end text) (cond (eqb id 7) (exports_at end text) (cond (eqb id 8) (start_at end text) (cond (eqb id 9) (elems_at most end text) (cond (eqb id 10) (bodies_at most declared end text) (segments_at most end text)))))))))) (ok (s, [])) n0.1) [
-      | inl h ↦ let t = (whole_of (exact_types most declared)).takes end text s le h.1 in (subst (λ z. OfId id (place end text) text z) (sym t.0.2) (eqb-true id 1 h.0, t.0.1), t.1)
-      | inr n1 ↦
-        elim (chosen (eqb id 2) (imports_at most end text) (cond (eqb id 3) (funcs_at most end text) (cond (eqb id 4) (tables_at end text) (cond (eqb id 5) (memories_at end text) (cond (eqb id 6) (globals_at most end text) (cond (eqb id 7) (exports_at end text) (cond (eqb id 8) (start_at end text) (cond (eqb id 9) (elems_at most end text) (cond (eqb id 10) (bodies_at most declared end text) (segments_at most end text))))))))) (ok (s, [])) n1.1) [
-        | inl h ↦ let t = (whole_of (exact_imports most declared)).takes end text s le h.1 in (subst (λ z. OfId id (place end text) text z) (sym t.0.2) (eqb-true id 2 h.0, t.0.1), t.1)
-        | inr n2 ↦
-          elim (chosen (eqb id 3) (funcs_at most end text) (cond (eqb id 4) (tables_at end text) (cond (eqb id 5) (memories_at end text) (cond (eqb id 6) (globals_at most end text) (cond (eqb id 7) (exports_at end text) (cond (eqb id 8) (start_at end text) (cond (eqb id 9) (elems_at most end text) (cond (eqb id 10) (bodies_at most declared end text) (segments_at most end text)))))))) (ok (s, [])) n2.1) [
-          | inl h ↦ let t = (whole_of (exact_funcs most declared)).takes end text s le h.1 in (subst (λ z. OfId id (place end text) text z) (sym t.0.2) (eqb-true id 3 h.0, t.0.1), t.1)
-          | inr n3 ↦
-            elim (chosen (eqb id 4) (tables_at end text) (cond (eqb id 5) (memories_at end text) (cond (eqb id 6) (globals_at most end text) (cond (eqb id 7) (exports_at end text) (cond (eqb id 8) (start_at end text) (cond (eqb id 9) (elems_at most end text) (cond (eqb id 10) (bodies_at most declared end text) (segments_at most end text))))))) (ok (s, [])) n3.1) [
-            | inl h ↦ let t = (whole_of (exact_tables most declared)).takes end text s le h.1 in (subst (λ z. OfId id (place end text) text z) (sym t.0.2) (eqb-true id 4 h.0, t.0.1), t.1)
-            | inr n4 ↦
-              elim (chosen (eqb id 5) (memories_at end text) (cond (eqb id 6) (globals_at most end text) (cond (eqb id 7) (exports_at end text) (cond (eqb id 8) (start_at end text) (cond (eqb id 9) (elems_at most end text) (cond (eqb id 10) (bodies_at most declared end text) (segments_at most end text)))))) (ok (s, [])) n4.1) [
-              | inl h ↦ let t = (whole_of (exact_memories most declared)).takes end text s le h.1 in (subst (λ z. OfId id (place end text) text z) (sym t.0.2) (eqb-true id 5 h.0, t.0.1), t.1)
-              | inr n5 ↦
-                elim (chosen (eqb id 6) (globals_at most end text) (cond (eqb id 7) (exports_at end text) (cond (eqb id 8) (start_at end text) (cond (eqb id 9) (elems_at most end text) (cond (eqb id 10) (bodies_at most declared end text) (segments_at most end text))))) (ok (s, [])) n5.1) [
-                | inl h ↦ let t = (whole_of (exact_globals most declared)).takes end text s le h.1 in (subst (λ z. OfId id (place end text) text z) (sym t.0.2) (eqb-true id 6 h.0, t.0.1), t.1)
-                | inr n6 ↦
-                  elim (chosen (eqb id 7) (exports_at end text) (cond (eqb id 8) (start_at end text) (cond (eqb id 9) (elems_at most end text) (cond (eqb id 10) (bodies_at most declared end text) (segments_at most end text)))) (ok (s, [])) n6.1) [
-                  | inl h ↦ let t = (whole_of (exact_exports most declared)).takes end text s le h.1 in (subst (λ z. OfId id (place end text) text z) (sym t.0.2) (eqb-true id 7 h.0, t.0.1), t.1)
-                  | inr n7 ↦
-                    elim (chosen (eqb id 8) (start_at end text) (cond (eqb id 9) (elems_at most end text) (cond (eqb id 10) (bodies_at most declared end text) (segments_at most end text))) (ok (s, [])) n7.1) [
-                    | inl h ↦ let t = (whole_of (exact_start most declared)).takes end text s le h.1 in (subst (λ z. OfId id (place end text) text z) (sym t.0.2) (eqb-true id 8 h.0, (t.0.1, refl)), t.1)
-                    | inr n8 ↦
-                      elim (chosen (eqb id 9) (elems_at most end text) (cond (eqb id 10) (bodies_at most declared end text) (segments_at most end text)) (ok (s, [])) n8.1) [
-                      | inl h ↦ let t = (whole_of (exact_elems most declared)).takes end text s le h.1 in (subst (λ z. OfId id (place end text) text z) (sym t.0.2) (eqb-true id 9 h.0, t.0.1), t.1)
-                      | inr n9 ↦
-                        elim (chosen (eqb id 10) (bodies_at most declared end text) (segments_at most end text) (ok (s, [])) n9.1) [
-                        | inl h ↦ let t = (whole_of (exact_bodies most declared)).takes end text s le h.1 in (subst (λ z. OfId id (place end text) text z) (sym t.0.2) (eqb-true id 10 h.0, (t.0.0.1, t.0.1)), t.1)
-                        | inr n10 ↦
-                          let t = (whole_of (exact_segments most declared)).takes end text s le n10.1 in
-                          let eleven : id ≡ 11 = last_id id small (eqb-false id 0 n0.0) (eqb-false id 1 n1.0) (eqb-false id 2 n2.0) (eqb-false id 3 n3.0) (eqb-false id 4 n4.0) (eqb-false id 5 n5.0) (eqb-false id 6 n6.0) (eqb-false id 7 n7.0) (eqb-false id 8 n8.0) (eqb-false id 9 n9.0) (eqb-false id 10 n10.0) in
-                          (subst (λ z. OfId id (place end text) text z) (sym t.0.2) (eleven, t.0.1), t.1)
-                        ]
+      | inl h ↦ let o = custom_takes end text s le h.1 in ((eqb-true id 0 h.0 ∙ o.0, o.1), custom_fits most declared (place end text) text s o)
+      | inr n0 ↦
+          elim (chosen (eqb id 1) (types_at most end text) (cond (eqb id 2) (imports_at most end text) (cond (eqb id 3) (funcs_at most end text) (cond (eqb id 4) (tables_at end text) (cond (eqb id 5) (memories_at end text) (cond (eqb id 6) (globals_at most end text) (cond (eqb id 7) (exports_at end text) (cond (eqb id 8) (start_at end text) (cond (eqb id 9) (elems_at most end text) (cond (eqb id 10) (bodies_at most declared end text) (segments_at most end text)))))))))) (ok (s, [])) n0.1) [
+            | inl h ↦ let t = (whole_of (exact_types most declared)).takes end text s le h.1 in (subst (λ z. OfId id (place end text) text z) (sym t.0.2) (eqb-true id 1 h.0, t.0.1), t.1)
+            | inr n1 ↦
+                elim (chosen (eqb id 2) (imports_at most end text) (cond (eqb id 3) (funcs_at most end text) (cond (eqb id 4) (tables_at end text) (cond (eqb id 5) (memories_at end text) (cond (eqb id 6) (globals_at most end text) (cond (eqb id 7) (exports_at end text) (cond (eqb id 8) (start_at end text) (cond (eqb id 9) (elems_at most end text) (cond (eqb id 10) (bodies_at most declared end text) (segments_at most end text))))))))) (ok (s, [])) n1.1) [
+                  | inl h ↦ let t = (whole_of (exact_imports most declared)).takes end text s le h.1 in (subst (λ z. OfId id (place end text) text z) (sym t.0.2) (eqb-true id 2 h.0, t.0.1), t.1)
+                  | inr n2 ↦
+                      elim (chosen (eqb id 3) (funcs_at most end text) (cond (eqb id 4) (tables_at end text) (cond (eqb id 5) (memories_at end text) (cond (eqb id 6) (globals_at most end text) (cond (eqb id 7) (exports_at end text) (cond (eqb id 8) (start_at end text) (cond (eqb id 9) (elems_at most end text) (cond (eqb id 10) (bodies_at most declared end text) (segments_at most end text)))))))) (ok (s, [])) n2.1) [
+                        | inl h ↦ let t = (whole_of (exact_funcs most declared)).takes end text s le h.1 in (subst (λ z. OfId id (place end text) text z) (sym t.0.2) (eqb-true id 3 h.0, t.0.1), t.1)
+                        | inr n3 ↦
+                            elim (chosen (eqb id 4) (tables_at end text) (cond (eqb id 5) (memories_at end text) (cond (eqb id 6) (globals_at most end text) (cond (eqb id 7) (exports_at end text) (cond (eqb id 8) (start_at end text) (cond (eqb id 9) (elems_at most end text) (cond (eqb id 10) (bodies_at most declared end text) (segments_at most end text))))))) (ok (s, [])) n3.1) [
+                              | inl h ↦ let t = (whole_of (exact_tables most declared)).takes end text s le h.1 in (subst (λ z. OfId id (place end text) text z) (sym t.0.2) (eqb-true id 4 h.0, t.0.1), t.1)
+                              | inr n4 ↦
+                                  elim (chosen (eqb id 5) (memories_at end text) (cond (eqb id 6) (globals_at most end text) (cond (eqb id 7) (exports_at end text) (cond (eqb id 8) (start_at end text) (cond (eqb id 9) (elems_at most end text) (cond (eqb id 10) (bodies_at most declared end text) (segments_at most end text)))))) (ok (s, [])) n4.1) [
+                                    | inl h ↦ let t = (whole_of (exact_memories most declared)).takes end text s le h.1 in (subst (λ z. OfId id (place end text) text z) (sym t.0.2) (eqb-true id 5 h.0, t.0.1), t.1)
+                                    | inr n5 ↦
+                                        elim (chosen (eqb id 6) (globals_at most end text) (cond (eqb id 7) (exports_at end text) (cond (eqb id 8) (start_at end text) (cond (eqb id 9) (elems_at most end text) (cond (eqb id 10) (bodies_at most declared end text) (segments_at most end text))))) (ok (s, [])) n5.1) [
+                                          | inl h ↦ let t = (whole_of (exact_globals most declared)).takes end text s le h.1 in (subst (λ z. OfId id (place end text) text z) (sym t.0.2) (eqb-true id 6 h.0, t.0.1), t.1)
+                                          | inr n6 ↦
+                                              elim (chosen (eqb id 7) (exports_at end text) (cond (eqb id 8) (start_at end text) (cond (eqb id 9) (elems_at most end text) (cond (eqb id 10) (bodies_at most declared end text) (segments_at most end text)))) (ok (s, [])) n6.1) [
+                                                | inl h ↦ let t = (whole_of (exact_exports most declared)).takes end text s le h.1 in (subst (λ z. OfId id (place end text) text z) (sym t.0.2) (eqb-true id 7 h.0, t.0.1), t.1)
+                                                | inr n7 ↦
+                                                    elim (chosen (eqb id 8) (start_at end text) (cond (eqb id 9) (elems_at most end text) (cond (eqb id 10) (bodies_at most declared end text) (segments_at most end text))) (ok (s, [])) n7.1) [
+                                                      | inl h ↦ let t = (whole_of (exact_start most declared)).takes end text s le h.1 in (subst (λ z. OfId id (place end text) text z) (sym t.0.2) (eqb-true id 8 h.0, (t.0.1, refl)), t.1)
+                                                      | inr n8 ↦
+                                                          elim (chosen (eqb id 9) (elems_at most end text) (cond (eqb id 10) (bodies_at most declared end text) (segments_at most end text)) (ok (s, [])) n8.1) [
+                                                            | inl h ↦ let t = (whole_of (exact_elems most declared)).takes end text s le h.1 in (subst (λ z. OfId id (place end text) text z) (sym t.0.2) (eqb-true id 9 h.0, t.0.1), t.1)
+                                                            | inr n9 ↦
+                                                                elim (chosen (eqb id 10) (bodies_at most declared end text) (segments_at most end text) (ok (s, [])) n9.1) [
+                                                                  | inl h ↦ let t = (whole_of (exact_bodies most declared)).takes end text s le h.1 in (subst (λ z. OfId id (place end text) text z) (sym t.0.2) (eqb-true id 10 h.0, (t.0.0.1, t.0.1)), t.1)
+                                                                  | inr n10 ↦
+                                                                      let t = (whole_of (exact_segments most declared)).takes end text s le n10.1 in
+                                                                      let eleven : id ≡ 11 = last_id id small (eqb-false id 0 n0.0) (eqb-false id 1 n1.0) (eqb-false id 2 n2.0) (eqb-false id 3 n3.0) (eqb-false id 4 n4.0) (eqb-false id 5 n5.0) (eqb-false id 6 n6.0) (eqb-false id 7 n7.0) (eqb-false id 8 n8.0) (eqb-false id 9 n9.0) (eqb-false id 10 n10.0) in
+                                                                      (subst (λ z. OfId id (place end text) text z) (sym t.0.2) (eleven, t.0.1), t.1)
+                                                                ]
+                                                          ]
+                                                    ]
+                                              ]
+                                        ]
+                                  ]
+                            ]
                       ]
-                    ]
-                  ]
                 ]
-              ]
-            ]
           ]
-        ]
-      ]
     ]
 
 contents_again : (most : Bounds) (declared id end : ℕ) (text : List ℕ) (s : Section) → length text ≤ end → OfId id (place end text) text s → Fits most declared s → contents_at most declared id end text ≡ Ok (s, [])
@@ -339,25 +339,25 @@ exact_id : (last : ℕ) → Exact (id_at last) AnyByte (IdFits last)
 unfolding id_at
 exact_id last = record {
   takes = λ end bytes rest x le e.
-    let p = bind_ok (byte_at end bytes) (λ b. cond (ltb 11 b.0) (err (Malformed (place end bytes) word.Byte)) (cond (not (eqb b.0 0) && leb b.0 last) (err (Malformed (place end bytes) word.Order)) (Ok b))) (x, rest) e in
-    let b = p.0.0 in
-    elim (chosen (ltb 11 b) (err (Malformed (place end bytes) word.Byte)) (cond (not (eqb b 0) && leb b last) (err (Malformed (place end bytes) word.Order)) (ok p.0)) (ok (x, rest)) p.2) [
-      | inl h ↦ absurd (let k = h.1 in cc)
-      | inr h ↦ elim (chosen (not (eqb b 0) && leb b last) (err (Malformed (place end bytes) word.Order)) (ok p.0) (ok (x, rest)) h.1) [
-        | inl k ↦ absurd (let q = k.1 in cc)
-        | inr k ↦
-          let s = ok_is p.0 (x, rest) k.1 in
-          let is : b ≡ x = ap (λ (z : ℕ × List ℕ). z.0) s in
-          record {
-            text = x ∷ [];
-            parts = (byte_taken end bytes p.0 p.1).is ∙ ap (λ (z : ℕ × List ℕ). z.0 ∷ z.1) s;
-            spells = refl;
-            within = subst (IdFits last) is (ltb-false 11 b h.0, id_order last b k.0);
-          }
-      ]
-    ];
+      let p = bind_ok (byte_at end bytes) (λ b. cond (ltb 11 b.0) (err (Malformed (place end bytes) word.Byte)) (cond (not (eqb b.0 0) && leb b.0 last) (err (Malformed (place end bytes) word.Order)) (Ok b))) (x, rest) e in
+      let b = p.0.0 in
+      elim (chosen (ltb 11 b) (err (Malformed (place end bytes) word.Byte)) (cond (not (eqb b 0) && leb b last) (err (Malformed (place end bytes) word.Order)) (ok p.0)) (ok (x, rest)) p.2) [
+        | inl h ↦ absurd (let k = h.1 in cc)
+        | inr h ↦ elim (chosen (not (eqb b 0) && leb b last) (err (Malformed (place end bytes) word.Order)) (ok p.0) (ok (x, rest)) h.1) [
+          | inl k ↦ absurd (let q = k.1 in cc)
+          | inr k ↦
+              let s = ok_is p.0 (x, rest) k.1 in
+              let is : b ≡ x = ap (λ (z : ℕ × List ℕ). z.0) s in
+              record {
+                text = x ∷ [];
+                parts = (byte_taken end bytes p.0 p.1).is ∙ ap (λ (z : ℕ × List ℕ). z.0 ∷ z.1) s;
+                spells = refl;
+                within = subst (IdFits last) is (ltb-false 11 b h.0, id_order last b k.0);
+              }
+        ]
+      ];
   again = λ end text rest x le h w.
-    rw h (rw (byte_again end x rest) (rw (le-ltb 11 x w.0, order_id last x w.1) refl));
+      rw h (rw (byte_again end x rest) (rw (le-ltb 11 x w.0, order_id last x w.1) refl));
 }
 
 -- ---- sections
@@ -367,30 +367,30 @@ then_within : {A B : Type 0} {r : Reader A} {P : Spelling A} {W : Limited A} {s 
 unfolding then_at Then
 then_within {A} {B} {r} {P} {W} {s} {Q} {V} {U} er es sp = record {
   takes = λ end bytes rest y le e.
-    let b = bind_ok (r end bytes) (λ x. s x.0 end x.1) (y, rest) e in
-    let x = b.0.0 in
-    let mid = b.0.1 in
-    let t = er.takes end bytes mid x le b.1 in
-    let u = (es x t.within).takes end mid rest y (shorter end bytes t.text mid le t.parts) b.2 in
-    let q : Q x (place end bytes + length t.text) u.text y = subst (λ at. Q x at u.text y) (sym (place_after end bytes t.text mid le t.parts)) u.spells in
-    record {
-      text = t.text ++ u.text;
-      parts = t.parts ∙ ap (λ more. t.text ++ more) u.parts ∙ sym (append_assoc t.text u.text rest);
-      spells = (x, t.text, u.text, refl, t.spells, q);
-      within = sp.join x (place end bytes + length t.text) u.text y q t.within u.within;
-    };
+      let b = bind_ok (r end bytes) (λ x. s x.0 end x.1) (y, rest) e in
+      let x = b.0.0 in
+      let mid = b.0.1 in
+      let t = er.takes end bytes mid x le b.1 in
+      let u = (es x t.within).takes end mid rest y (shorter end bytes t.text mid le t.parts) b.2 in
+      let q : Q x (place end bytes + length t.text) u.text y = subst (λ at. Q x at u.text y) (sym (place_after end bytes t.text mid le t.parts)) u.spells in
+      record {
+        text = t.text ++ u.text;
+        parts = t.parts ∙ ap (λ more. t.text ++ more) u.parts ∙ sym (append_assoc t.text u.text rest);
+        spells = (x, t.text, u.text, refl, t.spells, q);
+        within = sp.join x (place end bytes + length t.text) u.text y q t.within u.within;
+      };
   again = λ end text rest y le h w.
-    let x = h.0 in
-    let a = h.1 in
-    let b = h.2 in
-    let whole : text ++ rest ≡ a ++ (b ++ rest) = ap (λ t. t ++ rest) h.3 ∙ append_assoc a b rest in
-    let ws = sp.split x (place end (text ++ rest) + length a) b y h.5 w in
-    let le2 : length (a ++ (b ++ rest)) ≤ end = subst (λ t. length t ≤ end) whole le in
-    let pa : P (place end (a ++ (b ++ rest))) a x = subst (λ t. P (place end t) a x) whole h.4 in
-    let first : r end (text ++ rest) ≡ Ok (x, b ++ rest) = ap (r end) whole ∙ er.again end a (b ++ rest) x le2 pa ws.0 in
-    let le3 : length (b ++ rest) ≤ end = shorter end (text ++ rest) a (b ++ rest) le whole in
-    let qb : Q x (place end (b ++ rest)) b y = subst (λ at. Q x at b y) (place_after end (text ++ rest) a (b ++ rest) le whole) h.5 in
-    ap (λ v. v >>= λ z. s z.0 end z.1) first ∙ (es x ws.0).again end b rest y le3 qb ws.1;
+      let x = h.0 in
+      let a = h.1 in
+      let b = h.2 in
+      let whole : text ++ rest ≡ a ++ (b ++ rest) = ap (λ t. t ++ rest) h.3 ∙ append_assoc a b rest in
+      let ws = sp.split x (place end (text ++ rest) + length a) b y h.5 w in
+      let le2 : length (a ++ (b ++ rest)) ≤ end = subst (λ t. length t ≤ end) whole le in
+      let pa : P (place end (a ++ (b ++ rest))) a x = subst (λ t. P (place end t) a x) whole h.4 in
+      let first : r end (text ++ rest) ≡ Ok (x, b ++ rest) = ap (r end) whole ∙ er.again end a (b ++ rest) x le2 pa ws.0 in
+      let le3 : length (b ++ rest) ≤ end = shorter end (text ++ rest) a (b ++ rest) le whole in
+      let qb : Q x (place end (b ++ rest)) b y = subst (λ at. Q x at b y) (place_after end (text ++ rest) a (b ++ rest) le whole) h.5 in
+      ap (λ v. v >>= λ z. s z.0 end z.1) first ∙ (es x ws.0).again end b rest y le3 qb ws.1;
 }
 
 -- the limits of a section, and that it may stand
@@ -431,7 +431,7 @@ unfolding section_at SpellsSection Then Tagged
 exact_section most last declared =
     exact_as (then_within (exact_id last) (λ id w. exact_sized (whole_contents most declared id w.0)) (section_splits most last declared))
     (λ at text s h. let k = sized_id h.0 (at + length h.1) h.2 s h.5 in
-      (h.0, h.2, h.3 ∙ ap (λ t. t ++ h.2) h.4, (k.0, subst (λ n. Sized SpellsContents (at + n) h.2 s) (ap length h.4) k.1)))
+    (h.0, h.2, h.3 ∙ ap (λ t. t ++ h.2) h.4, (k.0, subst (λ n. Sized SpellsContents (at + n) h.2 s) (ap length h.4) k.1)))
     (λ at text s h. (h.0, h.0 ∷ [], h.1, h.2, refl, id_sized h.0 (at + 1) h.1 s h.3.0 h.3.1))
 
 pub some_section : (at : ℕ) (text : List ℕ) (s : Section) → SpellsSection at text s → 0 < length text

@@ -164,8 +164,8 @@ pub exact_run : (n : ℕ) → Exact (run_at n) (Bytes n) Free
 unfolding Bytes
 exact_run n = record {
   takes = λ end bytes rest x le e.
-    let t = run_takes n end bytes rest x e in
-    record { text = x; parts = sym (take-append-drop n bytes) ∙ ap (λ a. a ++ drop n bytes) t.1 ∙ ap (λ b. x ++ b) t.2; spells = (ap length (sym t.1) ∙ omega (arith, length-take n bytes, t.0), refl); within = tt };
+      let t = run_takes n end bytes rest x e in
+      record { text = x; parts = sym (take-append-drop n bytes) ∙ ap (λ a. a ++ drop n bytes) t.1 ∙ ap (λ b. x ++ b) t.2; spells = (ap length (sym t.1) ∙ omega (arith, length-take n bytes, t.0), refl); within = tt };
   again = λ end text rest x le h w. run_again n end text rest h.0 ∙ ap (λ a. ok (a, rest)) (sym h.1);
 }
 
@@ -184,18 +184,18 @@ pub exact_text : (n : ℕ) → Exact (text_at n) (Utf8 n) Free
 unfolding text_at Utf8
 exact_text n = record {
   takes = λ end bytes rest x le e.
-    let p = bind_ok (run_at n end bytes) (λ t. text_of t.0 (place end bytes) >>= λ name. Ok (name, t.1)) (x, rest) e in
-    let q = bind_ok (text_of p.0.0 (place end bytes)) (λ name. Ok (name, p.0.1)) (x, rest) p.2 in
-    let s = ok_is (q.0, p.0.1) (x, rest) q.2 in
-    let u = text_is p.0.0 (place end bytes) q.0 q.1 in
-    let is : p.0.0 ≡ x = u.1 ∙ ap (λ (z : List ℕ × List ℕ). z.0) s in
-    let t = run_takes n end bytes p.0.1 p.0.0 p.1 in
-    record {
-      text = x;
-      parts = sym (take-append-drop n bytes) ∙ ap (λ a. a ++ drop n bytes) (t.1 ∙ is) ∙ ap (λ b. x ++ b) (t.2 ∙ ap (λ (z : List ℕ × List ℕ). z.1) s);
-      spells = (ap length (sym (t.1 ∙ is)) ∙ omega (arith, length-take n bytes, t.0), subst IsUtf8 is u.0, refl);
-      within = tt;
-    };
+      let p = bind_ok (run_at n end bytes) (λ t. text_of t.0 (place end bytes) >>= λ name. Ok (name, t.1)) (x, rest) e in
+      let q = bind_ok (text_of p.0.0 (place end bytes)) (λ name. Ok (name, p.0.1)) (x, rest) p.2 in
+      let s = ok_is (q.0, p.0.1) (x, rest) q.2 in
+      let u = text_is p.0.0 (place end bytes) q.0 q.1 in
+      let is : p.0.0 ≡ x = u.1 ∙ ap (λ (z : List ℕ × List ℕ). z.0) s in
+      let t = run_takes n end bytes p.0.1 p.0.0 p.1 in
+      record {
+        text = x;
+        parts = sym (take-append-drop n bytes) ∙ ap (λ a. a ++ drop n bytes) (t.1 ∙ is) ∙ ap (λ b. x ++ b) (t.2 ∙ ap (λ (z : List ℕ × List ℕ). z.1) s);
+        spells = (ap length (sym (t.1 ∙ is)) ∙ omega (arith, length-take n bytes, t.0), subst IsUtf8 is u.0, refl);
+        within = tt;
+      };
   again = λ end text rest x le h w. rw (run_again n end text rest h.0, is_utf8-from_IsUtf8 text h.1) (ap (λ a. ok (a, rest)) (sym h.2));
 }
 
@@ -232,7 +232,7 @@ limited_again {A} r P W most w er end text rest y le h few =
     let b = h.2 in
     let whole : text ++ rest ≡ a ++ (b ++ rest) = ap (λ t. t ++ rest) h.3 ∙ append_assoc a b rest in
     let num : number_at end (text ++ rest) ≡ Ok (n, b ++ rest) =
-        ap (number_at end) whole ∙ exact_number.again end a (b ++ rest) n (subst (λ t. length t ≤ end) whole le) (subst (λ t. SpellsNumber (place end t) a n) whole h.4) tt in
+    ap (number_at end) whole ∙ exact_number.again end a (b ++ rest) n (subst (λ t. length t ≤ end) whole le) (subst (λ t. SpellsNumber (place end t) a n) whole h.4) tt in
     let many : Many P n (place end (b ++ rest)) b y = subst (λ at. Many P n at b y) (place_after end (text ++ rest) a (b ++ rest) le whole) h.5 in
     let go = (exact_entries er n).again end b rest y (shorter end (text ++ rest) a (b ++ rest) le whole) many few.1 in
     let small : ltb most n ≡ false = le-ltb most n (omega (arith, h.5.0, few.0)) in
@@ -249,9 +249,9 @@ limited_count r P W er end most bytes rest y n le e few f =
 pub exact_limited : {A : Type 0} {r : Reader A} {P : Spelling A} {W : Limited A} (most : ℕ) (w : LimitWord) → Exact r P W → Exact (limited_at r most w) (SpellsVector P) (Few most W)
 exact_limited {A} {r} {P} {W} most w er = record {
   takes = λ end bytes rest y le e.
-    let p = limited_parts r most w end bytes rest y e in
-    let t = (exact_vector er).takes end bytes rest y le p.3 in
-    record { text = t.text; parts = t.parts; spells = t.spells; within = (limited_count r P W er end most bytes rest y p.0 le p.1 p.2 p.3, t.within) };
+      let p = limited_parts r most w end bytes rest y e in
+      let t = (exact_vector er).takes end bytes rest y le p.3 in
+      record { text = t.text; parts = t.parts; spells = t.spells; within = (limited_count r P W er end most bytes rest y p.0 le p.1 p.2 p.3, t.within) };
   again = λ end text rest y le h few. limited_again r P W most w er end text rest y le h few;
 }
 

@@ -124,7 +124,7 @@ rest_at most zero ps end bytes = Err (Malformed end word.End)
 rest_at most (suc n) ps end bytes = do
   i ← item_at (may_turn ps) (nat_lt most (length ps)) end bytes
   if is_last (length ps) i.0 then Ok ((own_instrs ps, place end bytes ∷ []), i.1) else
-    (rest_at most n (then_item ps i.0) end i.1 >>= λ x. Ok ((x.0.0, place end bytes ∷ x.0.1), x.1))
+      (rest_at most n (then_item ps i.0) end i.1 >>= λ x. Ok ((x.0.0, place end bytes ∷ x.0.1), x.1))
 
 -- An expression, with the place of each item. At most so many blocks are open at once.
 unfoldable pub expression_at : ℕ → Reader (List Instr × List ℕ)
@@ -139,7 +139,7 @@ unfoldable pub run_of_locals_at : ℕ → ℕ → Reader (ℕ × ValType)
 run_of_locals_at most sum end bytes = do
   count ← number_at end bytes
   if nat_lt most (sum + count.0) then Err (Limit (place end bytes) Locals)
-    else (value_type_at end count.1 >>= λ t. Ok ((count.0, t.0), t.1))
+      else (value_type_at end count.1 >>= λ t. Ok ((count.0, t.0), t.1))
 
 -- Runs of equal locals, behind a number of locals. At most so many locals are declared.
 unfoldable pub runs_at : ℕ → ℕ → ℕ → Reader (List ValType)

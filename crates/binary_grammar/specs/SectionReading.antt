@@ -44,7 +44,7 @@ unfoldable pub bodies_at : Bounds → ℕ → Reader Section
 bodies_at most declared end bytes = do
   n ← number_at end bytes
   if n.0 == declared then (entries_at (body_at most.locals most.nesting) n.0 end n.1 >>= λ x. Ok (section.Bodies x.0.0, x.1))
-    else Err (Malformed (place end bytes) word.Count)
+      else Err (Malformed (place end bytes) word.Count)
 
 unfoldable pub types_at : Bounds → Reader Section
 types_at most = then_at (limited_at (func_type_at most.params) most.types limit.Types) (λ x. done_at (section.Types x.0 x.1))
@@ -96,7 +96,7 @@ unfoldable pub id_at : ℕ → Reader ℕ
 id_at last end bytes = do
   b ← byte_at end bytes
   if nat_lt 11 b.0 then Err (Malformed (place end bytes) word.Byte) else
-    (if not (b.0 == 0) && nat_le b.0 last then Err (Malformed (place end bytes) word.Order) else Ok b)
+      (if not (b.0 == 0) && nat_le b.0 last then Err (Malformed (place end bytes) word.Order) else Ok b)
 
 -- A section: its id, its size, and its contents in a region of that size.
 unfoldable pub section_at : Bounds → ℕ → ℕ → Reader Section

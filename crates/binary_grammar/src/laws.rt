@@ -9,12 +9,10 @@ ghost use Rattle.binary_grammar.specs.ModuleGrammar.{Spells, InLimits};
 /// Bytes spell at most one module, with one set of marks.
 pub fn one_module()
     ensures { (bytes : List ℕ) (m n : Module) (j k : Marks) → Spells bytes m j → Spells bytes n k → (m ≡ n) × (j ≡ k) }
-{
-}
+{}
 
 /// A complete reading exists exactly where the bytes spell a module within the limits, and gives that module.
 pub fn complete_readings()
     ensures read { (bytes : List ℕ) (r : Decoded) → module_at the_bounds bytes ≡ Ok r → Spells bytes r.module r.marks × InLimits the_bounds r.module }
     ensures spelled { (bytes : List ℕ) (m : Module) (k : Marks) → Spells bytes m k → InLimits the_bounds m → module_at the_bounds bytes ≡ Ok (record { «module» = m; marks = k }) }
-{
-}
+{}

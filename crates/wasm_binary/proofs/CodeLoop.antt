@@ -32,7 +32,7 @@ pub goes_on : (most k m end : ℕ) (parts : List Part) (ps bytes : List ℕ) (i 
 unfolding rest_at
 goes_on most k m end parts ps bytes i after total e h l so_far =
     let one : with_places ps (rest_at most k parts end bytes) ≡ with_places (ps ++ place end bytes ∷ []) (rest_at most m (then_item parts i) end after) =
-        rw (e, h, l) (regroup ps (place end bytes) (rest_at most m (then_item parts i) end after)) in
+    rw (e, h, l) (regroup ps (place end bytes) (rest_at most m (then_item parts i) end after)) in
     sym one ∙ so_far
 
 pub stops : (most k m end : ℕ) (parts : List Part) (ps bytes : List ℕ) (i : Flat) (after : List ℕ) (total : Found) →
@@ -88,7 +88,7 @@ unfolding runs_at
 goes_on_runs most k m end ls bytes n t after total e h so_far =
     let len : length (ls ++ copies n t) ≡ length ls + n = omega (arith, length-append ls (copies n t), length-copies n t) in
     let one : with_locals ls (runs_at most (length ls) k end bytes) ≡ with_locals (ls ++ copies n t) (runs_at most (length (ls ++ copies n t)) m end after) =
-        rw (e, h, len) (regroup_locals ls (copies n t) (runs_at most (length ls + n) m end after)) in
+    rw (e, h, len) (regroup_locals ls (copies n t) (runs_at most (length ls + n) m end after)) in
     sym one ∙ so_far
 
 pub fails_runs : (f : DecodeFault) (most k m end : ℕ) (ls : List ValType) (bytes : List ℕ) (total : Locals) →

@@ -21,7 +21,7 @@ unfolding entries_at
 goes_on {A} r es ps count i end bytes e after total lt h so_far =
     let k : count - i ≡ suc (count - (i + 1)) = omega arith in
     let one : with_front es ps (entries_at r (count - i) end bytes) ≡ with_front (es ++ e ∷ []) (ps ++ place end bytes ∷ []) (entries_at r (count - (i + 1)) end after) =
-        rw (k, h) (regroup es ps e (place end bytes) (entries_at r (count - (i + 1)) end after)) in
+    rw (k, h) (regroup es ps e (place end bytes) (entries_at r (count - (i + 1)) end after)) in
     sym one ∙ so_far
 
 pub ends : {A : Type 0} (r : Reader A) (f : DecodeFault) (es : List A) (ps : List ℕ) (count i end : ℕ) (bytes : List ℕ) (total : Result ((List A × List ℕ) × List ℕ) DecodeFault) →

@@ -14,6 +14,7 @@ use wasm_syntax::{Code, CodeMaker, Flat, Head, Instr, MAX_ITEMS};
 use wasm_values::{List, OutOfMemory, ValType};
 
 const MAX_NESTING: usize = 100;
+
 const MAX_LOCALS: usize = 1_000;
 
 // Whether an item closes an expression with so many open parts, its own among them.
@@ -44,7 +45,11 @@ fn take_item(maker: &mut CodeMaker, item: Flat) -> Result<(), OutOfMemory>
 }
 
 /// An expression, with the place of each of its items.
-pub(crate) fn read_expression(alloc: Global, bytes: &[u8], end: usize) -> Result<(Code, List<usize>, &[u8]), DecodeFault>
+pub(crate) fn read_expression(
+    alloc: Global,
+    bytes: &[u8],
+    end: usize,
+) -> Result<(Code, List<usize>, &[u8]), DecodeFault>
     requires { length bytes.now ≤ MAX_ITEMS }
     ensures gives { Gives (λ x. ((x.0, x.1), x.2.now)) result (expression_at the_bounds.nesting end bytes.now) }
     ensures shorter { IfOk result (λ x. length x.2.now ≤ length bytes.now) }
@@ -68,7 +73,11 @@ pub(crate) fn read_expression(alloc: Global, bytes: &[u8], end: usize) -> Result
 
 /// An expression whose places do not matter.
 #[tactic(auto, unfolding(binary_grammar::specs::CodeReading::instrs_at, binary_grammar::specs::Reading::then_at, binary_grammar::specs::Reading::done_at))]
-pub(crate) fn read_instrs(alloc: Global, bytes: &[u8], end: usize) -> Result<(List<Instr>, &[u8]), DecodeFault>
+pub(crate) fn read_instrs(
+    alloc: Global,
+    bytes: &[u8],
+    end: usize,
+) -> Result<(List<Instr>, &[u8]), DecodeFault>
     requires { length bytes.now ≤ MAX_ITEMS }
     ensures gives { Gives (λ x. (x.0, x.1.now)) result (instrs_at the_bounds.nesting end bytes.now) }
     ensures shorter { IfOk result (λ x. length x.1.now ≤ length bytes.now) }
@@ -87,7 +96,11 @@ fn push_copies(locals: &mut List<ValType>, count: u32, ty: ValType) -> Result<()
 }
 
 #[tactic(auto, unfolding(binary_grammar::specs::CodeReading::run_of_locals_at, binary_grammar::specs::Reading::then_at, binary_grammar::specs::Reading::done_at))]
-fn read_run_of_locals(sum: usize, bytes: &[u8], end: usize) -> Result<(u32, ValType, &[u8]), DecodeFault>
+fn read_run_of_locals(
+    sum: usize,
+    bytes: &[u8],
+    end: usize,
+) -> Result<(u32, ValType, &[u8]), DecodeFault>
     requires { sum ≤ MAX_LOCALS }
     ensures gives { Gives (λ x. ((x.0, x.1), x.2.now)) result (run_of_locals_at the_bounds.locals sum end bytes.now) }
     ensures shorter { IfOk result (λ x. length x.2.now ≤ length bytes.now) }
@@ -104,7 +117,12 @@ fn read_run_of_locals(sum: usize, bytes: &[u8], end: usize) -> Result<(u32, ValT
     Ok((count, ty, rest))
 }
 
-fn read_runs(alloc: Global, count: u32, bytes: &[u8], end: usize) -> Result<(List<ValType>, &[u8]), DecodeFault>
+fn read_runs(
+    alloc: Global,
+    count: u32,
+    bytes: &[u8],
+    end: usize,
+) -> Result<(List<ValType>, &[u8]), DecodeFault>
     ensures gives { Gives (λ x. (x.0, x.1.now)) result (runs_at the_bounds.locals 0 count end bytes.now) }
     ensures shorter { IfOk result (λ x. length x.1.now ≤ length bytes.now) }
 {
@@ -119,7 +137,11 @@ fn read_runs(alloc: Global, count: u32, bytes: &[u8], end: usize) -> Result<(Lis
 }
 
 #[tactic(auto, unfolding(binary_grammar::specs::CodeReading::locals_at, binary_grammar::specs::Reading::then_at, binary_grammar::specs::Reading::done_at))]
-fn read_locals(alloc: Global, bytes: &[u8], end: usize) -> Result<(List<ValType>, &[u8]), DecodeFault>
+fn read_locals(
+    alloc: Global,
+    bytes: &[u8],
+    end: usize,
+) -> Result<(List<ValType>, &[u8]), DecodeFault>
     ensures gives { Gives (λ x. (x.0, x.1.now)) result (locals_at the_bounds.locals end bytes.now) }
     ensures shorter { IfOk result (λ x. length x.1.now ≤ length bytes.now) }
 {

@@ -165,7 +165,11 @@ fn read_sections(alloc: Global, bytes: &[u8], end: usize) -> Result<Draft, Decod
 }
 
 /// The functions of these types and bodies, and the places of their instructions.
-fn join_funcs(alloc: Global, declared: &[u32], bodies: List<Body>) -> Result<(List<Func>, List<List<usize>>), OutOfMemory>
+fn join_funcs(
+    alloc: Global,
+    declared: &[u32],
+    bodies: List<Body>,
+) -> Result<(List<Func>, List<List<usize>>), OutOfMemory>
     requires { length declared.now ≡ length bodies }
     ensures funcs { IfOk result (λ x. x.0 ≡ funcs_of declared.now bodies) }
     ensures places { IfOk result (λ x. x.1 ≡ places_of bodies) }

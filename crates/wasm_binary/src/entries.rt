@@ -51,7 +51,11 @@ pub(crate) fn read_entries<T: Entry>(
 
 /// A count, so many entries, and the place of each.
 #[tactic(auto, unfolding(binary_grammar::specs::Reading::vector_at, binary_grammar::specs::Reading::then_at, binary_grammar::specs::Reading::done_at))]
-pub(crate) fn read_vector<T: Entry>(alloc: Global, bytes: &[u8], end: usize) -> Result<(List<T>, List<usize>, &[u8]), DecodeFault>
+pub(crate) fn read_vector<T: Entry>(
+    alloc: Global,
+    bytes: &[u8],
+    end: usize,
+) -> Result<(List<T>, List<usize>, &[u8]), DecodeFault>
     requires { length bytes.now ≤ MAX_ITEMS }
     ensures gives { Gives (λ x. ((x.0, x.1), x.2.now)) result (vector_at T.reads end bytes.now) }
     ensures shorter { IfOk result (λ x. length x.2.now ≤ length bytes.now) }
@@ -85,7 +89,11 @@ pub(crate) fn read_limited<T: Entry>(
 
 /// A vector whose places do not matter.
 #[tactic(auto, unfolding(binary_grammar::specs::Reading::list_at, binary_grammar::specs::Reading::then_at, binary_grammar::specs::Reading::done_at))]
-pub(crate) fn read_list<T: Entry>(alloc: Global, bytes: &[u8], end: usize) -> Result<(List<T>, &[u8]), DecodeFault>
+pub(crate) fn read_list<T: Entry>(
+    alloc: Global,
+    bytes: &[u8],
+    end: usize,
+) -> Result<(List<T>, &[u8]), DecodeFault>
     requires { length bytes.now ≤ MAX_ITEMS }
     ensures gives { Gives (λ x. (x.0, x.1.now)) result (list_at T.reads end bytes.now) }
     ensures shorter { IfOk result (λ x. length x.1.now ≤ length bytes.now) }

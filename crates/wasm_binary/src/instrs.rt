@@ -36,7 +36,12 @@ fn read_word64(bytes: &[u8], end: usize) -> Result<(u64, &[u8]), DecodeFault>
 }
 
 #[tactic(auto, unfolding(binary_grammar::specs::CodeReading::index_at, binary_grammar::specs::Reading::then_at, binary_grammar::specs::Reading::done_at, binary_grammar::specs::Reading::of_byte, binary_grammar::specs::Reading::tagged_at))]
-fn read_index(at: usize, op: Opcode, bytes: &[u8], end: usize) -> Result<(Instr, &[u8]), DecodeFault>
+fn read_index(
+    at: usize,
+    op: Opcode,
+    bytes: &[u8],
+    end: usize,
+) -> Result<(Instr, &[u8]), DecodeFault>
     ensures gives { Gives (λ x. (x.0, x.1.now)) result (index_at at op end bytes.now) }
     ensures shorter { IfOk result (λ x. length x.1.now ≤ length bytes.now) }
     ensures simple { IfOk result (λ x. IsTrue (is_simple x.0)) }
@@ -79,7 +84,13 @@ fn read_index(at: usize, op: Opcode, bytes: &[u8], end: usize) -> Result<(Instr,
 }
 
 #[tactic(auto, unfolding(binary_grammar::specs::CodeReading::indexed_at, binary_grammar::specs::Reading::then_at, binary_grammar::specs::Reading::done_at, binary_grammar::specs::Reading::of_byte, binary_grammar::specs::Reading::tagged_at))]
-fn read_indexed(alloc: Global, at: usize, op: Opcode, bytes: &[u8], end: usize) -> Result<(Instr, &[u8]), DecodeFault>
+fn read_indexed(
+    alloc: Global,
+    at: usize,
+    op: Opcode,
+    bytes: &[u8],
+    end: usize,
+) -> Result<(Instr, &[u8]), DecodeFault>
     requires { length bytes.now ≤ MAX_ITEMS }
     ensures gives { Gives (λ x. (x.0, x.1.now)) result (indexed_at at op end bytes.now) }
     ensures shorter { IfOk result (λ x. length x.1.now ≤ length bytes.now) }
@@ -111,7 +122,13 @@ fn read_indexed(alloc: Global, at: usize, op: Opcode, bytes: &[u8], end: usize) 
 }
 
 #[tactic(auto, unfolding(binary_grammar::specs::CodeReading::simple_at, binary_grammar::specs::Reading::then_at, binary_grammar::specs::Reading::done_at, binary_grammar::specs::Reading::of_byte, binary_grammar::specs::Reading::tagged_at))]
-fn read_simple(alloc: Global, at: usize, op: Opcode, bytes: &[u8], end: usize) -> Result<(Instr, &[u8]), DecodeFault>
+fn read_simple(
+    alloc: Global,
+    at: usize,
+    op: Opcode,
+    bytes: &[u8],
+    end: usize,
+) -> Result<(Instr, &[u8]), DecodeFault>
     requires { length bytes.now ≤ MAX_ITEMS }
     ensures gives { Gives (λ x. (x.0, x.1.now)) result (simple_at at op end bytes.now) }
     ensures shorter { IfOk result (λ x. length x.1.now ≤ length bytes.now) }
@@ -145,7 +162,12 @@ fn read_simple(alloc: Global, at: usize, op: Opcode, bytes: &[u8], end: usize) -
 }
 
 #[tactic(auto, unfolding(binary_grammar::specs::CodeReading::head_at, binary_grammar::specs::Reading::then_at, binary_grammar::specs::Reading::done_at, binary_grammar::specs::Reading::of_byte, binary_grammar::specs::Reading::tagged_at))]
-fn read_head(full: bool, at: usize, bytes: &[u8], end: usize) -> Result<(Option<ValType>, &[u8]), DecodeFault>
+fn read_head(
+    full: bool,
+    at: usize,
+    bytes: &[u8],
+    end: usize,
+) -> Result<(Option<ValType>, &[u8]), DecodeFault>
     ensures gives { Gives (λ x. (x.0, x.1.now)) result (head_at full at end bytes.now) }
     ensures shorter { IfOk result (λ x. length x.1.now ≤ length bytes.now) }
 {
@@ -225,12 +247,26 @@ fn read_kind(
 }
 
 #[tactic(auto, unfolding(binary_grammar::specs::CodeReading::item_at, binary_grammar::specs::Reading::then_at, binary_grammar::specs::Reading::done_at, binary_grammar::specs::Reading::of_byte, binary_grammar::specs::Reading::tagged_at))]
-pub(crate) fn read_item(alloc: Global, turn: bool, full: bool, bytes: &[u8], end: usize) -> Result<(Flat, &[u8]), DecodeFault>
+pub(crate) fn read_item(
+    alloc: Global,
+    turn: bool,
+    full: bool,
+    bytes: &[u8],
+    end: usize,
+) -> Result<(Flat, &[u8]), DecodeFault>
     requires { length bytes.now ≤ MAX_ITEMS }
     ensures gives { Gives (λ x. (x.0, x.1.now)) result (item_at turn full end bytes.now) }
     ensures shorter { IfOk result (λ x. length x.1.now ≤ length bytes.now) }
     ensures fits { IfOk result (λ x. FitsIn turn x.0) }
 {
     let (byte, rest) = read_byte(bytes, end)?;
-    read_kind(alloc, turn, full, place(bytes, end), opcode(byte), rest, end)
+    read_kind(
+        alloc,
+        turn,
+        full,
+        place(bytes, end),
+        opcode(byte),
+        rest,
+        end,
+    )
 }

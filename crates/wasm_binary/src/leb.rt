@@ -6,6 +6,7 @@ use binary_grammar::LebFault;
 
 // The most bytes of a number of 32 bits, and of 64 bits.
 const MOST_32: usize = 5;
+
 const MOST_64: usize = 10;
 
 /// The value of a number's digits, and how many they are.

@@ -76,7 +76,11 @@ pub(crate) fn own_bytes(alloc: Global, bytes: &[u8]) -> Result<Bytes, DecodeFaul
 }
 
 #[tactic(auto, unfolding(binary_grammar::specs::Reading::bytes_at, binary_grammar::specs::Reading::then_at, binary_grammar::specs::Reading::done_at))]
-pub(crate) fn read_bytes(alloc: Global, bytes: &[u8], end: usize) -> Result<(Bytes, &[u8]), DecodeFault>
+pub(crate) fn read_bytes(
+    alloc: Global,
+    bytes: &[u8],
+    end: usize,
+) -> Result<(Bytes, &[u8]), DecodeFault>
     ensures gives { Gives (λ x. (x.0, x.1.now)) result (bytes_at end bytes.now) }
     ensures shorter { IfOk result (λ x. length x.1.now ≤ length bytes.now) }
 {
@@ -96,7 +100,11 @@ fn text_of(alloc: Global, bytes: &[u8], at: usize) -> Result<Text, DecodeFault>
 }
 
 #[tactic(auto, unfolding(binary_grammar::specs::Reading::name_at, binary_grammar::specs::Reading::text_at, binary_grammar::specs::Reading::then_at, binary_grammar::specs::Reading::done_at))]
-pub(crate) fn read_name(alloc: Global, bytes: &[u8], end: usize) -> Result<(Text, &[u8]), DecodeFault>
+pub(crate) fn read_name(
+    alloc: Global,
+    bytes: &[u8],
+    end: usize,
+) -> Result<(Text, &[u8]), DecodeFault>
     ensures gives { Gives (λ x. (x.0, x.1.now)) result (name_at end bytes.now) }
     ensures shorter { IfOk result (λ x. length x.1.now ≤ length bytes.now) }
 {

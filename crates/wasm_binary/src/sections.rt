@@ -6,7 +6,10 @@ ghost use Rattle.binary_grammar.specs.SectionReading.{global_at, elem_at, segmen
 
 use crate::code::read_instrs;
 use crate::entries::{Entry, read_entries, read_limited, read_list, read_vector};
-use crate::read::{malformed, own_bytes, place, read_byte, read_bytes, read_end, read_name, read_number, read_region};
+use crate::read::{
+    malformed, own_bytes, place, read_byte, read_bytes, read_end, read_name, read_number,
+    read_region,
+};
 use crate::types::{read_global_type, read_limits, read_table_type};
 use binary_grammar::{DecodeFault, DecodeWord, LimitWord, Section};
 use std::alloc::Global;
@@ -24,7 +27,11 @@ impl Entry for Limits {
 }
 
 #[tactic(auto, unfolding(binary_grammar::specs::SectionReading::global_at, binary_grammar::specs::Reading::then_at, binary_grammar::specs::Reading::done_at))]
-fn read_global(alloc: Global, bytes: &[u8], end: usize) -> Result<(wasm_syntax::Global, &[u8]), DecodeFault>
+fn read_global(
+    alloc: Global,
+    bytes: &[u8],
+    end: usize,
+) -> Result<(wasm_syntax::Global, &[u8]), DecodeFault>
     requires { length bytes.now ≤ MAX_ITEMS }
     ensures gives { Gives (λ x. (x.0, x.1.now)) result (global_at the_bounds.nesting end bytes.now) }
     ensures shorter { IfOk result (λ x. length x.1.now ≤ length bytes.now) }
@@ -37,7 +44,11 @@ fn read_global(alloc: Global, bytes: &[u8], end: usize) -> Result<(wasm_syntax::
 impl Entry for wasm_syntax::Global {
     ghost reads = { global_at the_bounds.nesting };
 
-    fn read(alloc: Global, bytes: &[u8], end: usize) -> Result<(wasm_syntax::Global, &[u8]), DecodeFault> {
+    fn read(
+        alloc: Global,
+        bytes: &[u8],
+        end: usize,
+    ) -> Result<(wasm_syntax::Global, &[u8]), DecodeFault> {
         read_global(alloc, bytes, end)
     }
 }
@@ -113,7 +124,12 @@ fn read_start(bytes: &[u8], end: usize) -> Result<(Section, &[u8]), DecodeFault>
 }
 
 /// So many tables, and the place of each.
-fn read_table_types(alloc: Global, count: u32, bytes: &[u8], end: usize) -> Result<(List<Limits>, List<usize>, &[u8]), DecodeFault>
+fn read_table_types(
+    alloc: Global,
+    count: u32,
+    bytes: &[u8],
+    end: usize,
+) -> Result<(List<Limits>, List<usize>, &[u8]), DecodeFault>
     ensures { Gives (λ x. ((x.0, x.1), x.2.now)) result (entries_at table_type_at count end bytes.now) }
 {
     let mut entries = List::new(alloc);
@@ -160,7 +176,13 @@ fn read_funcs(alloc: Global, bytes: &[u8], end: usize) -> Result<(Section, &[u8]
     requires { length bytes.now ≤ MAX_ITEMS }
     ensures { Gives (λ x. (x.0, x.1.now)) result (funcs_at the_bounds end bytes.now) }
 {
-    let (entries, places, rest) = read_limited(alloc, MAX_ENTRIES, LimitWord::Functions, bytes, end)?;
+    let (entries, places, rest) = read_limited(
+        alloc,
+        MAX_ENTRIES,
+        LimitWord::Functions,
+        bytes,
+        end,
+    )?;
     Ok((Section::Funcs(entries, places), rest))
 }
 
@@ -210,7 +232,12 @@ fn read_segments(alloc: Global, bytes: &[u8], end: usize) -> Result<(Section, &[
 }
 
 #[tactic(auto, unfolding(binary_grammar::specs::SectionReading::bodies_at, binary_grammar::specs::Reading::then_at, binary_grammar::specs::Reading::done_at))]
-fn read_bodies(alloc: Global, declared: usize, bytes: &[u8], end: usize) -> Result<(Section, &[u8]), DecodeFault>
+fn read_bodies(
+    alloc: Global,
+    declared: usize,
+    bytes: &[u8],
+    end: usize,
+) -> Result<(Section, &[u8]), DecodeFault>
     requires { length bytes.now ≤ MAX_ITEMS }
     ensures { Gives (λ x. (x.0, x.1.now)) result (bodies_at the_bounds declared end bytes.now) }
 {

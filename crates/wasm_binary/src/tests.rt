@@ -16,8 +16,8 @@ fn fault(alloc: Global, bytes: &[u8]) -> Option<Fault> {
 
 // One function that sets a global.
 const SAMPLE: [u8; 43] = [
-    0, 0x61, 0x73, 0x6d, 1, 0, 0, 0, 1, 4, 1, 0x60, 0, 0, 3, 2, 1, 0, 6, 6, 1, 0x7f, 1, 0x41, 7, 0x0b,
-    7, 5, 1, 1, 0x66, 0, 0, 0x0a, 8, 1, 6, 0, 0x41, 7, 0x24, 0, 0x0b,
+    0, 0x61, 0x73, 0x6d, 1, 0, 0, 0, 1, 4, 1, 0x60, 0, 0, 3, 2, 1, 0, 6, 6, 1, 0x7f, 1, 0x41, 7,
+    0x0b, 7, 5, 1, 1, 0x66, 0, 0, 0x0a, 8, 1, 6, 0, 0x41, 7, 0x24, 0, 0x0b,
 ];
 
 fn cut_fault(len: usize) -> Option<Fault> {
@@ -36,13 +36,19 @@ fn cut_fault(len: usize) -> Option<Fault> {
 #[test]
 fn cut_files(rt: HostRuntime) {
     for len in 0..44 {
-        assert_eq!(rt; fault(rt.alloc(), &SAMPLE[..len]), cut_fault(len), "at {len}");
+        assert_eq!(rt;
+            fault(rt.alloc(), &SAMPLE[..len]),
+            cut_fault(len),
+            "at {len}"
+        );
     }
 }
 
 #[test]
 fn a_module_with_its_marks(rt: HostRuntime) -> Result<(), Fail> {
-    let found = decode(rt.alloc(), &SAMPLE).ok().ok_or("the bytes are a module")?;
+    let found = decode(rt.alloc(), &SAMPLE)
+        .ok()
+        .ok_or("the bytes are a module")?;
     assert_eq!(rt; found.module.funcs.len(), 1);
     assert_eq!(rt; found.module.globals.len(), 1);
     assert_eq!(rt; found.marks.exports.as_slice(), [29].as_slice());
@@ -62,17 +68,29 @@ fn with_type(alloc: Global, bytes: &[u8]) -> Result<Vec<u8>, Fail> {
 #[test]
 fn numbers_floats_and_limits(rt: HostRuntime) -> Result<(), Fail> {
     let cases: [(&[u8], Option<Fault>); 6] = [
-        (&[3, 6, 1, 0x80, 0x80, 0x80, 0x80, 0, 0x0a, 4, 1, 2, 0, 0x0b], None),
-        (&[3, 7, 1, 0x80, 0x80, 0x80, 0x80, 0x80, 0], Some((0x11, Some(DecodeWord::Number)))),
+        (
+            &[3, 6, 1, 0x80, 0x80, 0x80, 0x80, 0, 0x0a, 4, 1, 2, 0, 0x0b],
+            None,
+        ),
+        (
+            &[3, 7, 1, 0x80, 0x80, 0x80, 0x80, 0x80, 0],
+            Some((0x11, Some(DecodeWord::Number))),
+        ),
         (
             &[
-                3, 2, 1, 0, 0x0a, 0x10, 1, 0x0e, 0, 0x42, 0x80, 0x80, 0x80, 0x80, 0x80, 0x80, 0x80, 0x80,
-                0x80, 1, 0x1a, 0x0b,
+                3, 2, 1, 0, 0x0a, 0x10, 1, 0x0e, 0, 0x42, 0x80, 0x80, 0x80, 0x80, 0x80, 0x80, 0x80,
+                0x80, 0x80, 1, 0x1a, 0x0b,
             ],
             Some((0x18, Some(DecodeWord::Number))),
         ),
-        (&[3, 2, 1, 0, 0x0a, 5, 1, 3, 0, 0x92, 0x0b], Some((0x17, Some(DecodeWord::Float)))),
-        (&[3, 2, 1, 0, 0x0a, 7, 1, 5, 1, 0xe9, 7, 0x7f, 0x0b], Some((0x17, None))),
+        (
+            &[3, 2, 1, 0, 0x0a, 5, 1, 3, 0, 0x92, 0x0b],
+            Some((0x17, Some(DecodeWord::Float))),
+        ),
+        (
+            &[3, 2, 1, 0, 0x0a, 7, 1, 5, 1, 0xe9, 7, 0x7f, 0x0b],
+            Some((0x17, None)),
+        ),
         (&[3, 2, 1, 0, 0x0a, 7, 1, 5, 1, 0xe8, 7, 0x7f, 0x0b], None),
     ];
     for (bytes, wanted) in cases {

@@ -7,7 +7,9 @@ use crate::entries::{Entry, read_limited, read_list};
 use crate::read::{malformed, place, read_byte, read_name, read_number};
 use binary_grammar::{DecodeFault, DecodeWord, LimitWord};
 use std::alloc::Global;
-use wasm_syntax::{Export, ExportKind, FuncType, GlobalType, Import, ImportKind, Limits, MAX_ITEMS};
+use wasm_syntax::{
+    Export, ExportKind, FuncType, GlobalType, Import, ImportKind, Limits, MAX_ITEMS,
+};
 use wasm_values::ValType;
 
 const MAX_PARAMS: u32 = 1_000;
@@ -53,7 +55,10 @@ fn block_type(at: usize, byte: u8) -> Result<Option<ValType>, DecodeFault>
 }
 
 #[tactic(auto, unfolding(binary_grammar::specs::TypeReading::block_type_at, binary_grammar::specs::Reading::then_at, binary_grammar::specs::Reading::done_at, binary_grammar::specs::Reading::of_byte, binary_grammar::specs::Reading::tagged_at))]
-pub(crate) fn read_block_type(bytes: &[u8], end: usize) -> Result<(Option<ValType>, &[u8]), DecodeFault>
+pub(crate) fn read_block_type(
+    bytes: &[u8],
+    end: usize,
+) -> Result<(Option<ValType>, &[u8]), DecodeFault>
     ensures gives { Gives (λ x. (x.0, x.1.now)) result (block_type_at end bytes.now) }
     ensures shorter { IfOk result (λ x. length x.1.now ≤ length bytes.now) }
 {
@@ -153,7 +158,12 @@ pub(crate) fn read_global_type(bytes: &[u8], end: usize) -> Result<(GlobalType, 
 }
 
 #[tactic(auto, unfolding(binary_grammar::specs::TypeReading::import_kind_of, binary_grammar::specs::Reading::then_at, binary_grammar::specs::Reading::done_at, binary_grammar::specs::Reading::of_byte, binary_grammar::specs::Reading::tagged_at))]
-fn import_kind(at: usize, byte: u8, bytes: &[u8], end: usize) -> Result<(ImportKind, &[u8]), DecodeFault>
+fn import_kind(
+    at: usize,
+    byte: u8,
+    bytes: &[u8],
+    end: usize,
+) -> Result<(ImportKind, &[u8]), DecodeFault>
     ensures gives { Gives (λ x. (x.0, x.1.now)) result (import_kind_of at byte end bytes.now) }
     ensures shorter { IfOk result (λ x. length x.1.now ≤ length bytes.now) }
 {
@@ -207,7 +217,12 @@ impl Entry for Import {
 }
 
 #[tactic(auto, unfolding(binary_grammar::specs::TypeReading::export_kind_of, binary_grammar::specs::Reading::then_at, binary_grammar::specs::Reading::done_at, binary_grammar::specs::Reading::of_byte, binary_grammar::specs::Reading::tagged_at))]
-fn export_kind(at: usize, byte: u8, bytes: &[u8], end: usize) -> Result<(ExportKind, &[u8]), DecodeFault>
+fn export_kind(
+    at: usize,
+    byte: u8,
+    bytes: &[u8],
+    end: usize,
+) -> Result<(ExportKind, &[u8]), DecodeFault>
     ensures gives { Gives (λ x. (x.0, x.1.now)) result (export_kind_of at byte end bytes.now) }
     ensures shorter { IfOk result (λ x. length x.1.now ≤ length bytes.now) }
 {

@@ -15,14 +15,14 @@ returns-in_err-item-clause-gives c =
     let n = length c.args.bytes.now in
     let k : n - c.loop.counter ≡ suc (n - (c.loop.counter + 1)) = omega arith in
     rw (p.1, p.2) (fails c.in_err-item.field-0.0 100 (n - c.loop.counter) (n - (c.loop.counter + 1)) c.args.end c.loop.maker c.loop.places c.loop.rest.now (expression_at 100 c.args.end c.args.bytes.now) k
-        (rw (← c.may_turn-turn.ensures, ← c.parts-parts.ensures.value) c.in_err-item.ensures.gives) c.loop.invariant.0)
+    (rw (← c.may_turn-turn.ensures, ← c.parts-parts.ensures.value) c.in_err-item.ensures.gives) c.loop.invariant.0)
 
 pub returns-then-is_last-clause-gives : goal.returns-then-is_last-clause-gives
 returns-then-is_last-clause-gives c =
     let n = length c.args.bytes.now in
     let k : n - c.loop.counter ≡ suc (n - (c.loop.counter + 1)) = omega arith in
     let e : item_at (may_turn c.loop.maker) (nat_lt 100 (length c.loop.maker)) c.args.end c.loop.rest.now ≡ Ok (c.in_ok-item.item, c.in_ok-item.after.now) =
-        rw (← c.may_turn-turn.ensures, ← c.parts-parts.ensures.value) c.in_ok-item.ensures.gives in
+    rw (← c.may_turn-turn.ensures, ← c.parts-parts.ensures.value) c.in_ok-item.ensures.gives in
     let l : is_last (length c.loop.maker) c.in_ok-item.item ≡ true = rw (← c.parts-parts.ensures.value) (sym c.is_last.ensures ∙ c.if-is_last.true) in
     let s = stops 100 (n - c.loop.counter) (n - (c.loop.counter + 1)) c.args.end c.loop.maker c.loop.places c.loop.rest.now c.in_ok-item.item c.in_ok-item.after.now (expression_at 100 c.args.end c.args.bytes.now) k e l c.loop.invariant.0 in
     let ps : c.push.new.self ≡ c.loop.places ++ place c.args.end c.loop.rest.now ∷ [] = rw (← c.place.ensures) c.in_ok-push.ensures.ok in
@@ -33,7 +33,7 @@ loop-preserved c =
     let n = length c.args.bytes.now in
     let k : n - c.loop.counter ≡ suc (n - (c.loop.counter + 1)) = omega arith in
     let e : item_at (may_turn c.loop.maker) (nat_lt 100 (length c.loop.maker)) c.args.end c.loop.rest.now ≡ Ok (c.in_ok-item.item, c.in_ok-item.after.now) =
-        rw (← c.may_turn-turn.ensures, ← c.parts-parts.ensures.value) c.in_ok-item.ensures.gives in
+    rw (← c.may_turn-turn.ensures, ← c.parts-parts.ensures.value) c.in_ok-item.ensures.gives in
     let l : is_last (length c.loop.maker) c.in_ok-item.item ≡ false = rw (← c.parts-parts.ensures.value) (sym c.is_last.ensures ∙ c.if-is_last.false) in
     let s = goes_on 100 (n - c.loop.counter) (n - (c.loop.counter + 1)) c.args.end c.loop.maker c.loop.places c.loop.rest.now c.in_ok-item.item c.in_ok-item.after.now (expression_at 100 c.args.end c.args.bytes.now) k e l c.loop.invariant.0 in
     let ps : c.push.new.self ≡ c.loop.places ++ place c.args.end c.loop.rest.now ∷ [] = rw (← c.place.ensures) c.in_ok-push.ensures.ok in

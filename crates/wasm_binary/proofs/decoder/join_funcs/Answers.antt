@@ -14,7 +14,8 @@ loop-body-preserved c =
     let t = YieldsList-turn (YieldsList-from_vec c.args.bodies (g.0 ∙ items) (g.1 ∙ len)) c.loop-body.yielded c.loop-body.body-iterator c.loop-body.yielded_by c.next.result c.next.new.self c.in-Some.body c.in-Some.is c.next.ensures.steps in
     let lt : length c.loop-body.yielded < length c.args.declared.now = omega (arith, t.0, c.requires) in
     let i : c.len.result ≡ length c.loop-body.yielded = c.len.ensures ∙ c.loop-body.invariant.2 in
-    let k = c.in_ok-push.ensures.ok in
-    (rw (k, i, c.loop-body.invariant.0) (sym (more_funcs c.args.declared.now c.loop-body.yielded c.in-Some.body 0 lt)),
-     c.in_ok-push-2.ensures.ok ∙ ap (λ ps. ps ++ c.in-Some.body.places ∷ []) c.loop-body.invariant.1 ∙ sym (map_push _ c.loop-body.yielded c.in-Some.body),
-     rw k (length_push c.loop-body.funcs _ ∙ ap (λ n. n + 1) c.loop-body.invariant.2 ∙ sym (length_push c.loop-body.yielded c.in-Some.body)))
+    let k = c.in_ok-push.ensures.ok in (
+      rw (k, i, c.loop-body.invariant.0) (sym (more_funcs c.args.declared.now c.loop-body.yielded c.in-Some.body 0 lt)),
+      c.in_ok-push-2.ensures.ok ∙ ap (λ ps. ps ++ c.in-Some.body.places ∷ []) c.loop-body.invariant.1 ∙ sym (map_push _ c.loop-body.yielded c.in-Some.body),
+      rw k (length_push c.loop-body.funcs _ ∙ ap (λ n. n + 1) c.loop-body.invariant.2 ∙ sym (length_push c.loop-body.yielded c.in-Some.body)),
+    )

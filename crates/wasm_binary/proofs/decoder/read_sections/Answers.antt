@@ -12,14 +12,14 @@ returns-in_err-section c =
     let n = length c.args.bytes.now in
     let k : n - c.loop.counter ≡ suc (n - (c.loop.counter + 1)) = omega arith in
     rw (p.1, p.2) (fails c.in_err-section.field-0.0 the_bounds (n - c.loop.counter) (n - (c.loop.counter + 1)) c.args.end c.loop.draft c.loop.rest.now (sections_at the_bounds n no_sections c.args.end c.args.bytes.now) k (sym c.is_empty.ensures ∙ c.if-is_empty.false)
-        (rw (← c.len.ensures) c.in_err-section.ensures) c.loop.invariant)
+    (rw (← c.len.ensures) c.in_err-section.ensures) c.loop.invariant)
 
 pub loop-preserved : goal.loop-preserved
 loop-preserved c =
     let n = length c.args.bytes.now in
     let k : n - c.loop.counter ≡ suc (n - (c.loop.counter + 1)) = omega arith in
     rw c.in_ok-add_section.ensures (goes_on the_bounds (n - c.loop.counter) (n - (c.loop.counter + 1)) c.args.end c.loop.draft c.loop.rest.now c.in_ok-section.section c.in_ok-section.after.now (sections_at the_bounds n no_sections c.args.end c.args.bytes.now) k (sym c.is_empty.ensures ∙ c.if-is_empty.false)
-        (rw (← c.len.ensures) c.in_ok-section.ensures) c.loop.invariant)
+    (rw (← c.len.ensures) c.in_ok-section.ensures) c.loop.invariant)
 
 pub returns : goal.returns
 returns c =
