@@ -8,3 +8,5 @@ pub mod BodyLaws
 pub mod SectionLaws
 pub mod ModuleLaws
 pub mod UniqueLaws
+pub mod ReadingLaws
+pub mod PlanLaws

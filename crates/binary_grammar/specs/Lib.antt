@@ -8,3 +8,5 @@ pub mod SectionReading
 pub mod Grammar
 pub mod CodeGrammar
 pub mod ModuleGrammar
+pub mod Readings
+pub mod Plans
