@@ -182,13 +182,13 @@ whole_of {A} {r} {P} {W} er = record {
       ap (r end) (sym same) ∙ q;
 }
 
-record RegionTaken (end : ℕ) (bytes inside after : List ℕ) (inner : ℕ) : Type 0 where
-  size : List ℕ
-  parts : bytes ≡ size ++ (inside ++ after)
-  number : SpellsNumber (place end bytes) size (length inside)
-  ends : inner ≡ end - length after
+pub record RegionTaken (end : ℕ) (bytes inside after : List ℕ) (inner : ℕ) : Type 0 where
+  pub size : List ℕ
+  pub parts : bytes ≡ size ++ (inside ++ after)
+  pub number : SpellsNumber (place end bytes) size (length inside)
+  pub ends : inner ≡ end - length after
 
-region_takes : (end : ℕ) (bytes inside after : List ℕ) (inner : ℕ) → length bytes ≤ end → region_at end bytes ≡ Ok (inside, inner, after) → RegionTaken end bytes inside after inner
+pub region_takes : (end : ℕ) (bytes inside after : List ℕ) (inner : ℕ) → length bytes ≤ end → region_at end bytes ≡ Ok (inside, inner, after) → RegionTaken end bytes inside after inner
 unfolding region_at
 region_takes end bytes inside after inner le e =
     let p = bind_ok (number_at end bytes) (λ n. cond (ltb (length n.1) n.0) (err (Malformed (place end bytes) word.Size)) (Ok (take n.0 n.1, end - length (drop n.0 n.1), drop n.0 n.1))) (inside, inner, after) e in

@@ -103,7 +103,7 @@ spelled_simple : (at : ℕ) (text : List ℕ) (x : Flat) → SpellsItem at text 
 unfolding SpellsItem Tagged
 spelled_simple at text x h = item_simple h.3.0 (at + 1) h.1 x h.3.2
 
-some_text : (at : ℕ) (text : List ℕ) (x : Flat) → SpellsItem at text x → 0 < length text
+pub some_text : (at : ℕ) (text : List ℕ) (x : Flat) → SpellsItem at text x → 0 < length text
 unfolding SpellsItem Tagged
 some_text at text x h = omega (arith, ap length h.2)
 

@@ -10,3 +10,4 @@ pub mod ModuleLaws
 pub mod UniqueLaws
 pub mod ReadingLaws
 pub mod PlanLaws
+pub mod PlanModule

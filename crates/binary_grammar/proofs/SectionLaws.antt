@@ -32,30 +32,30 @@ err e = Err e
 
 -- ---- entries with an expression
 
-abbrev GlobalNests : ℕ → Limited Global
+abbrev pub GlobalNests : ℕ → Limited Global
 GlobalNests nesting g = NestsAtMost nesting g.init
 
-abbrev ElemNests : ℕ → Limited Elem
+abbrev pub ElemNests : ℕ → Limited Elem
 ElemNests nesting e = NestsAtMost nesting e.offset
 
-abbrev SegmentNests : ℕ → Limited Segment
+abbrev pub SegmentNests : ℕ → Limited Segment
 SegmentNests nesting s = NestsAtMost nesting s.offset
 
-exact_global : (nesting : ℕ) → Exact (global_at nesting) SpellsGlobal (GlobalNests nesting)
+pub exact_global : (nesting : ℕ) → Exact (global_at nesting) SpellsGlobal (GlobalNests nesting)
 unfolding global_at SpellsGlobal Done
 exact_global nesting = exact_then exact_global_type (λ t. exact_then (exact_instrs nesting) (λ init. exact_done (record { ty = t; init = init })) (record {
   split = λ init at text y q u. (subst (GlobalNests nesting) q.1 u, tt);
   join = λ init at text y q w v. subst (GlobalNests nesting) (sym q.1) w;
 })) (none_limited (GlobalNests nesting))
 
-exact_elem : (nesting : ℕ) → Exact (elem_at nesting) SpellsElem (ElemNests nesting)
+pub exact_elem : (nesting : ℕ) → Exact (elem_at nesting) SpellsElem (ElemNests nesting)
 unfolding elem_at SpellsElem Then Done
 exact_elem nesting = exact_then exact_number (λ table. exact_then (exact_instrs nesting) (λ offset. exact_then (list_free exact_number) (λ funcs. exact_done (record { table = table; offset = offset; funcs = funcs })) free) (record {
   split = λ offset at text y q u. (subst (ElemNests nesting) q.5.1 u, tt);
   join = λ offset at text y q w v. subst (ElemNests nesting) (sym q.5.1) w;
 })) (none_limited (ElemNests nesting))
 
-exact_segment : (nesting : ℕ) → Exact (segment_at nesting) SpellsSegment (SegmentNests nesting)
+pub exact_segment : (nesting : ℕ) → Exact (segment_at nesting) SpellsSegment (SegmentNests nesting)
 unfolding segment_at SpellsSegment Then Done
 exact_segment nesting = exact_then exact_number (λ memory. exact_then (exact_instrs nesting) (λ offset. exact_then exact_bytes (λ contents. exact_done (record { memory = memory; offset = offset; bytes = contents })) free) (record {
   split = λ offset at text y q u. (subst (SegmentNests nesting) q.5.1 u, tt);
@@ -314,10 +314,10 @@ whole_contents most declared id small = record {
 
 -- ---- ids
 
-abbrev AnyByte : Spelling ℕ
+abbrev pub AnyByte : Spelling ℕ
 AnyByte at text b = text ≡ b ∷ []
 
-abbrev IdFits : ℕ → Limited ℕ
+abbrev pub IdFits : ℕ → Limited ℕ
 IdFits last b = (b ≤ 11) × InOrder last b
 
 order_of : (c d : Bool) → (not c && d) ≡ false → (c ≡ true) ⊎ (d ≡ false)
@@ -335,7 +335,7 @@ order_id : (last b : ℕ) → InOrder last b → (not (eqb b 0) && leb b last) �
 order_id last b (inl h) = rw h refl
 order_id last b (inr h) = rw (lt-leb b last h) (and_false (eqb b 0))
 
-exact_id : (last : ℕ) → Exact (id_at last) AnyByte (IdFits last)
+pub exact_id : (last : ℕ) → Exact (id_at last) AnyByte (IdFits last)
 unfolding id_at
 exact_id last = record {
   takes = λ end bytes rest x le e.
