@@ -44,7 +44,7 @@ unfolding magic_at
 magic_again [] end rest = refl
 magic_again (h ∷ hs) end rest = rw (eq-eqb h h refl) (magic_again hs end rest)
 
-header_takes : (end : ℕ) (bytes rest : List ℕ) → header_at end bytes ≡ Ok rest → bytes ≡ header ++ rest
+pub header_takes : (end : ℕ) (bytes rest : List ℕ) → header_at end bytes ≡ Ok rest → bytes ≡ header ++ rest
 unfolding header_at
 header_takes end bytes rest e =
     elim (chosen (ltb (length bytes) 8) (err (Malformed end word.End)) (magic_at header end bytes) (ok rest) e) [

@@ -84,8 +84,8 @@ pub agrees_next : {A B : Type 0} {len : ℕ} {r : Reader A} {p : Plan A} {s : A 
 unfolding then_at
 agrees_next {A} {B} {len} {r} {p} {s} {q} sr ap1 aq = record {
   agree = λ left le few.
-    run_then p q left ∙ ap (λ v. v >>= λ x. run (q x.0) x.1) (ap1.agree left le few) ∙
-    then_step r s q left (r left.end left.bytes) (λ x rest e.
+      run_then p q left ∙ ap (λ v. v >>= λ x. run (q x.0) x.1) (ap1.agree left le few) ∙
+      then_step r s q left (r left.end left.bytes) (λ x rest e.
       let n = sr.left left.end left.bytes rest x le e in
       (aq x).agree (now left rest) (omega (arith, n)) (omega (arith, n)));
 }
@@ -151,10 +151,10 @@ unfolding entries_at entries_plan accept then_at done_at
 agrees_entries er ar zero = record { agree = λ left le few. refl }
 agrees_entries {A} {len} {r} {P} {W} {p} er ar (suc n) = record {
   agree = λ left le few.
-    let at = place left.end left.bytes in
-    let more : Agrees len (then_at r (λ x. then_at (entries_at r n) (λ xs. done_at (x ∷ xs.0, at ∷ xs.1)))) (andThen p (λ x. andThen (entries_plan p n) (λ xs. Complete (x ∷ xs.0, at ∷ xs.1)))) =
-        agrees_then er ar (λ x. agrees_then (exact_entries er n) (agrees_entries er ar n) (λ xs. agrees_done (x ∷ xs.0, at ∷ xs.1))) in
-    more.agree left le few;
+      let at = place left.end left.bytes in
+      let more : Agrees len (then_at r (λ x. then_at (entries_at r n) (λ xs. done_at (x ∷ xs.0, at ∷ xs.1)))) (andThen p (λ x. andThen (entries_plan p n) (λ xs. Complete (x ∷ xs.0, at ∷ xs.1)))) =
+      agrees_then er ar (λ x. agrees_then (exact_entries er n) (agrees_entries er ar n) (λ xs. agrees_done (x ∷ xs.0, at ∷ xs.1))) in
+      more.agree left le few;
 }
 
 pub agrees_vector : {A : Type 0} {len : ℕ} {r : Reader A} {P : Spelling A} {W : Limited A} {p : Plan A} → Exact r P W → Agrees len r p → Agrees len (vector_at r) (vector_plan p)
@@ -186,14 +186,14 @@ guard_first {B} (Ok n) c d g = go (c n.0)
 pub shrinks_guarded : (c : ℕ → Bool) (f : ℕ → DecodeFault) → Shrinks (guarded c f)
 shrinks_guarded c f = record {
   left = λ end bytes rest x le e.
-    let p = bind_ok (number_at end bytes) (λ n. cond (c n.0) (Err (f (place end bytes))) (Ok n)) (x, rest) e in
-    elim (chosen (c p.0.0) (Err (f (place end bytes))) (ok p.0) (ok (x, rest)) p.2) [
-      | inl h ↦ absurd (let k = h.1 in cc)
-      | inr h ↦
-        let s = ok_is p.0 (x, rest) h.1 in
-        let t = exact_number.takes end bytes p.0.1 p.0.0 le p.1 in
-        omega (arith, ap length t.parts, length-append t.text p.0.1, ap (λ (z : ℕ × List ℕ). length z.1) s)
-    ];
+      let p = bind_ok (number_at end bytes) (λ n. cond (c n.0) (Err (f (place end bytes))) (Ok n)) (x, rest) e in
+      elim (chosen (c p.0.0) (Err (f (place end bytes))) (ok p.0) (ok (x, rest)) p.2) [
+        | inl h ↦ absurd (let k = h.1 in cc)
+        | inr h ↦
+            let s = ok_is p.0 (x, rest) h.1 in
+            let t = exact_number.takes end bytes p.0.1 p.0.0 le p.1 in
+            omega (arith, ap length t.parts, length-append t.text p.0.1, ap (λ (z : ℕ × List ℕ). length z.1) s)
+      ];
 }
 
 pub agrees_few : {len : ℕ} (most : ℕ) (w : LimitWord) → Agrees len (few_at most w) (one (Few most w))
@@ -342,8 +342,8 @@ pub agrees_strict : {A B : Type 0} {m : ℕ} {r : Reader A} {p : Plan A} {s : A 
 unfolding then_at
 agrees_strict {A} {B} {m} {r} {p} {s} {q} strict ar aq = record {
   agree = λ left le few.
-    run_then p q left ∙ ap (λ v. v >>= λ x. run (q x.0) x.1) (ar.agree left le few) ∙
-    then_step r s q left (r left.end left.bytes) (λ x rest e.
+      run_then p q left ∙ ap (λ v. v >>= λ x. run (q x.0) x.1) (ar.agree left le few) ∙
+      then_step r s q left (r left.end left.bytes) (λ x rest e.
       let n = strict left.end left.bytes rest x le e in
       (aq x).agree (now left rest) (omega (arith, n)) (omega (arith, n)));
 }
@@ -367,21 +367,21 @@ pub agrees_rest : (most len n k : ℕ) → len ≤ n → len ≤ k → (ps : Lis
 unfolding rest_at rest_plan accept then_at done_at
 agrees_rest most zero n k a b ps = record {
   agree = λ left le few.
-    let none : left.bytes ≡ [] = nil_from_length left.bytes (omega arith) in
-    subst (λ bs. run (rest_plan most n ps) (now left bs) ≡ local (rest_at most k ps) (now left bs)) (sym none)
-    (none_planned most n ps left ∙ sym (ap (leave (now left [])) (none_read most k ps left.end)));
+      let none : left.bytes ≡ [] = nil_from_length left.bytes (omega arith) in
+      subst (λ bs. run (rest_plan most n ps) (now left bs) ≡ local (rest_at most k ps) (now left bs)) (sym none)
+      (none_planned most n ps left ∙ sym (ap (leave (now left [])) (none_read most k ps left.end)));
 }
 agrees_rest most (suc m) zero k a b ps = absurd (omega arith)
 agrees_rest most (suc m) (suc n) zero a b ps = absurd (omega arith)
 agrees_rest most (suc m) (suc n) (suc k) a b ps = record {
   agree = λ left le few.
-    let at = place left.end left.bytes in
-    let full = ltb most (length ps) in
-    let more : Agrees (suc m) (then_at (item_at (may_turn ps) full) (λ i end bytes. cond (is_last (length ps) i) (done_at (own_instrs ps, at ∷ []) end bytes) (then_at (rest_at most k (then_item ps i)) (λ x. done_at (x.0, at ∷ x.1)) end bytes)))
-        (andThen (item_plan (may_turn ps) full) (λ i. cond (is_last (length ps) i) (Complete (own_instrs ps, at ∷ [])) (andThen (rest_plan most n (then_item ps i)) (λ x. Complete (x.0, at ∷ x.1))))) =
-        agrees_strict (strict_item (may_turn ps) full) (agrees_item (may_turn ps) full) (λ i. agrees_either (is_last (length ps) i) (agrees_done (own_instrs ps, at ∷ []))
-            (agrees_map (λ x. (x.0, at ∷ x.1)) (agrees_rest most m n k (omega arith) (omega arith) (then_item ps i)))) in
-    more.agree left le few;
+      let at = place left.end left.bytes in
+      let full = ltb most (length ps) in
+      let more : Agrees (suc m) (then_at (item_at (may_turn ps) full) (λ i end bytes. cond (is_last (length ps) i) (done_at (own_instrs ps, at ∷ []) end bytes) (then_at (rest_at most k (then_item ps i)) (λ x. done_at (x.0, at ∷ x.1)) end bytes)))
+      (andThen (item_plan (may_turn ps) full) (λ i. cond (is_last (length ps) i) (Complete (own_instrs ps, at ∷ [])) (andThen (rest_plan most n (then_item ps i)) (λ x. Complete (x.0, at ∷ x.1))))) =
+      agrees_strict (strict_item (may_turn ps) full) (agrees_item (may_turn ps) full) (λ i. agrees_either (is_last (length ps) i) (agrees_done (own_instrs ps, at ∷ []))
+      (agrees_map (λ x. (x.0, at ∷ x.1)) (agrees_rest most m n k (omega arith) (omega arith) (then_item ps i)))) in
+      more.agree left le few;
 }
 
 pub agrees_expression : {len : ℕ} (most : ℕ) → Agrees len (expression_at most) (expression_plan len most)

@@ -34,7 +34,7 @@ use Rattle.binary_grammar.specs.Bounds.{Bounds, copies}
 use Rattle.binary_grammar.specs.Reading.{◌>>=◌, Reader, place, then_at, done_at, of_byte, tagged_at, number_at, byte_at, entries_at, vector_at, limited_at, list_at, run_at, bytes_at, text_at, name_at, region_at, ended, sized_at}
 use Rattle.binary_grammar.specs.TypeReading.{value_type_at, tag_at, flag_at, block_type_at, func_type_at, greatest_at, limits_at, table_type_at, global_type_at, import_kind_of, import_kind_at, import_at, export_kind_of, export_kind_at, export_at}
 use Rattle.binary_grammar.specs.CodeReading.{word32_at, word64_at, index_at, indexed_at, simple_at, head_at, op_at, kind_at, item_at, is_last, own_instrs, rest_at, expression_at, instrs_at, run_of_locals_at, runs_at, locals_at, body_contents_at, body_at}
-use Rattle.binary_grammar.specs.SectionReading.{global_at, elem_at, segment_at, custom_at, bodies_at, types_at, imports_at, funcs_at, tables_at, memories_at, globals_at, exports_at, start_at, elems_at, segments_at, contents_at, id_at, section_at, with_section, no_sections, sections_at, whole_module, finished_at, header_at, module_at}
+use Rattle.binary_grammar.specs.SectionReading.{global_at, elem_at, segment_at, custom_at, bodies_at, types_at, imports_at, funcs_at, tables_at, memories_at, globals_at, exports_at, start_at, elems_at, segments_at, contents_at, id_at, section_at, with_section, no_sections, sections_at, whole_module, finished_at, header, header_at, module_at}
 use Rattle.binary_grammar.specs.Grammar.{Spelling}
 use Rattle.binary_grammar.specs.Readings.{Wanted, Header, Next, FileEnd, Size, RegionEnd, Number, Few, Count, RunCount, Word32, Word64, Utf8, Bytes, Rest, ValueType, BlockType, Tag, Flag, KindByte, Op, Here, Given, Left, local, few_at, count_at, run_count_at, rest_of_region, kind_byte_of, opening, turning, opcode_of, kind_accepted, next_of, left_by, accept, Plan, Complete, Want, andThen}
 use Rattle.binary_grammar.specs.Plans.{one, entries_plan, vector_plan, limited_plan, list_plan, bytes_plan, name_plan, sized_plan, func_type_plan, greatest_plan, limits_plan, table_type_plan, global_type_plan, imported_plan, import_plan, exported_plan, export_plan, indexed_plan, two_plan, zero_plan, instr_plan, op_plan, item_plan, rest_plan, expression_plan, instrs_plan, runs_plan, locals_plan, body_plan, global_plan, elem_plan, segment_plan, contents_plan, sections_plan, module_plan, whole_file}
@@ -46,6 +46,8 @@ use Rattle.binary_grammar.proofs.CodeLaws.{some_text, exact_expression, exact_in
 use Rattle.binary_grammar.proofs.ItemLaws.{exact_word32, exact_word64, exact_simple, exact_item}
 use Rattle.binary_grammar.specs.Readings.{ReadsTo, StopsAt}
 use Rattle.binary_grammar.specs.Plans.{ReadsModule, Fault}
+use Rattle.binary_grammar.proofs.ModuleLaws.{header_takes}
+use Rattle.std.specs.Prelude.{◌↔◌}
 use Rattle.binary_grammar.proofs.ReadingLaws.{run_reads, reads_run, run_stops, stops_run}
 use Rattle.binary_grammar.proofs.BodyLaws.{exact_locals, exact_body, region_takes}
 use Rattle.binary_grammar.proofs.SectionLaws.{exact_id, exact_global, exact_elem, exact_segment, exact_section, some_section}
@@ -252,16 +254,16 @@ agrees_custom : {len : ℕ} → Agrees len custom_at (andThen name_plan (λ name
 unfolding custom_at then_at done_at
 agrees_custom {len} =
     let a : Agrees len (then_at name_at (λ name. then_at rest_of_region (λ bs. done_at (section.Custom name bs)))) (andThen name_plan (λ name. andThen (one Rest) (λ bs. Complete (section.Custom name bs)))) =
-        agrees_then exact_name agrees_name (λ name. agrees_map (section.Custom name) agrees_remaining) in
+    agrees_then exact_name agrees_name (λ name. agrees_map (section.Custom name) agrees_remaining) in
     record { agree = λ left le few. a.agree left le few }
 
 agrees_start : {len : ℕ} → Agrees len start_at (Want Here (λ at. andThen (one Number) (λ n. Complete (section.Start n at))))
 unfolding start_at accept then_at done_at
 agrees_start {len} = record {
   agree = λ left le few.
-    let at = place left.end left.bytes in
-    let a : Agrees len (then_at number_at (λ n. done_at (section.Start n at))) (andThen (one Number) (λ n. Complete (section.Start n at))) = agrees_map (λ n. section.Start n at) agrees_number in
-    a.agree left le few;
+      let at = place left.end left.bytes in
+      let a : Agrees len (then_at number_at (λ n. done_at (section.Start n at))) (andThen (one Number) (λ n. Complete (section.Start n at))) = agrees_map (λ n. section.Start n at) agrees_number in
+      a.agree left le few;
 }
 
 agrees_count : {len : ℕ} (declared : ℕ) → Agrees len (count_at declared) (one (Count declared))
@@ -272,14 +274,14 @@ shrinks_count : (declared : ℕ) → Shrinks (count_at declared)
 unfolding count_at
 shrinks_count declared = record {
   left = λ end bytes rest x le e.
-    let p = bind_ok (number_at end bytes) (λ n. cond (eqb n.0 declared) (Ok n) (Err (Malformed (place end bytes) word.Count))) (x, rest) e in
-    elim (chosen (eqb p.0.0 declared) (ok p.0) (Err (Malformed (place end bytes) word.Count)) (ok (x, rest)) p.2) [
-      | inl h ↦
-        let s = ok_is p.0 (x, rest) h.1 in
-        let t = exact_number.takes end bytes p.0.1 p.0.0 le p.1 in
-        omega (arith, ap length t.parts, length-append t.text p.0.1, ap (λ (z : ℕ × List ℕ). length z.1) s)
-      | inr h ↦ absurd (let k = h.1 in cc)
-    ];
+      let p = bind_ok (number_at end bytes) (λ n. cond (eqb n.0 declared) (Ok n) (Err (Malformed (place end bytes) word.Count))) (x, rest) e in
+      elim (chosen (eqb p.0.0 declared) (ok p.0) (Err (Malformed (place end bytes) word.Count)) (ok (x, rest)) p.2) [
+        | inl h ↦
+            let s = ok_is p.0 (x, rest) h.1 in
+            let t = exact_number.takes end bytes p.0.1 p.0.0 le p.1 in
+            omega (arith, ap length t.parts, length-append t.text p.0.1, ap (λ (z : ℕ × List ℕ). length z.1) s)
+        | inr h ↦ absurd (let k = h.1 in cc)
+      ];
 }
 
 count_first : {B : Type 0} (v : Result (ℕ × List ℕ) DecodeFault) (c : ℕ → Bool) (d : DecodeFault) (g : ℕ × List ℕ → Result B DecodeFault) →
@@ -347,9 +349,9 @@ id_shrinks last end bytes x le e =
 behind_id : (len : ℕ) (most : Bounds) (n : ℕ) (d : Draft) (left : Left) → length left.bytes ≤ left.end → length left.bytes ≤ len →
     (v : Result (ℕ × List ℕ) DecodeFault) → id_at d.last left.end left.bytes ≡ v → Behind len most n d left →
     (leave left (found_next v) >>= λ x. run (elim x.0 as (λ o. Plan Draft) [
-        | None ↦ Complete d
-        | Some id ↦ andThen (sized_plan (contents_plan len most (length d.declared) id)) (λ s. sections_plan len most n (with_section d s))
-      ]) x.1) ≡
+      | None ↦ Complete d
+      | Some id ↦ andThen (sized_plan (contents_plan len most (length d.declared) id)) (λ s. sections_plan len most n (with_section d s))
+    ]) x.1) ≡
     drafted left ((v >>= λ id. sized_at (contents_at most (length d.declared) id.0) left.end id.1) >>= λ s. sections_at most n (with_section d s.0) left.end s.1)
 unfolding section_at then_at
 behind_id len most n d left le few (Err f) e go = refl
@@ -359,7 +361,7 @@ behind_id len most n d left le few (Ok id) e go =
     run_then (sized_plan (contents_plan len most (length d.declared) id.0)) (λ s. sections_plan len most n (with_section d s)) (now left id.1) ∙
     ap (λ v. v >>= λ x. run (sections_plan len most n (with_section d x.0)) x.1) (a.agree (now left id.1) (omega (arith, short)) (omega (arith, short))) ∙
     behind_region len most n d left (sized_at (contents_at most (length d.declared) id.0) left.end id.1) (λ s rest q.
-      go s rest (ap (λ v. v >>= λ z. sized_at (contents_at most (length d.declared) z.0) left.end z.1) e ∙ q))
+    go s rest (ap (λ v. v >>= λ z. sized_at (contents_at most (length d.declared) z.0) left.end z.1) e ∙ q))
 
 sections_bytes : (len : ℕ) (most : Bounds) (n : ℕ) (d : Draft) (left : Left) (bytes : List ℕ) → length bytes ≤ left.end → length bytes ≤ len → length bytes ≤ n →
     run (sections_plan len most n d) (now left bytes) ≡ drafted left (sections_at most n d left.end bytes)
@@ -369,5 +371,94 @@ sections_bytes len most zero d left (b ∷ bs) le few fit = absurd (omega arith)
 sections_bytes len most (suc n) d left [] le few fit = refl
 sections_bytes len most (suc n) d left (b ∷ bs) le few fit =
     behind_id len most n d (now left (b ∷ bs)) le few (id_at d.last left.end (b ∷ bs)) refl (λ s rest e.
-      let k = section_shrinks most d.last (length d.declared) left.end (b ∷ bs) rest s le e in
-      sections_bytes len most n (with_section d s) left rest (omega (arith, k)) (omega (arith, k)) (omega (arith, k)))
+    let k = section_shrinks most d.last (length d.declared) left.end (b ∷ bs) rest s le e in
+    sections_bytes len most n (with_section d s) left rest (omega (arith, k)) (omega (arith, k)) (omega (arith, k)))
+
+-- ---- modules
+
+abbrev value_of : {A : Type 0} → Result (A × Left) DecodeFault → Result A DecodeFault
+value_of v = v >>= λ x. Ok x.0
+
+abbrev behind_header : Left → Result (List ℕ) DecodeFault → Result (Unit {0} × Left) DecodeFault
+behind_header left v = v >>= λ rest. Ok (tt {0}, now left rest)
+
+abbrev at_end : ℕ → Draft → Plan Decoded
+at_end len d = Want (FileEnd (length d.declared) (length d.bodies)) (λ e. Complete (whole_module len d))
+
+abbrev file_left : ℕ → List ℕ → Left
+file_left len bytes = record { end = len; bytes = bytes; outer = [] }
+
+file_ends : (len : ℕ) (d : Draft) → value_of (run (at_end len d) (file_left len [])) ≡ finished_at len d
+unfolding accept finished_at
+file_ends len d = go (eqb (length d.bodies) (length d.declared))
+  where
+    go : (b : Bool) → value_of (with_value (whole_module len d) (cond b (Ok (tt {0}, file_left len [])) (Err (Malformed len word.Count)))) ≡ cond b (Ok (whole_module len d)) (Err (Malformed len word.Count))
+    go true = refl
+    go false = refl
+
+sections_end : (len : ℕ) (bytes : List ℕ) (v : Result Draft DecodeFault) →
+    value_of (drafted (file_left len bytes) v >>= λ x. run (at_end len x.0) x.1) ≡ (v >>= λ d. finished_at len d)
+sections_end len bytes (Ok d) = file_ends len d
+sections_end len bytes (Err f) = refl
+
+same_next : {A B : Type 0} (v : Result A DecodeFault) (f g : A → Result B DecodeFault) → ((x : A) → v ≡ Ok x → f x ≡ g x) → (v >>= f) ≡ (v >>= g)
+same_next (Ok x) f g h = h x refl
+same_next (Err d) f g h = refl
+
+abbrev failed : {A : Type 0} → DecodeFault → Result A DecodeFault
+failed d = Err d
+
+-- more room changes nothing
+sections_same : (most : Bounds) (n k : ℕ) (d : Draft) (end : ℕ) (bytes : List ℕ) → length bytes ≤ end → length bytes ≤ n → length bytes ≤ k → sections_at most n d end bytes ≡ sections_at most k d end bytes
+unfolding sections_at
+sections_same most zero zero d end bytes le a b = refl
+sections_same most zero (suc k) d end [] le a b = refl
+sections_same most zero (suc k) d end (c ∷ bs) le a b = absurd (omega arith)
+sections_same most (suc n) zero d end [] le a b = refl
+sections_same most (suc n) zero d end (c ∷ bs) le a b = absurd (omega arith)
+sections_same most (suc n) (suc k) d end [] le a b = refl
+sections_same most (suc n) (suc k) d end (c ∷ bs) le a b =
+    same_next (section_at most d.last (length d.declared) end (c ∷ bs)) (λ s. sections_at most n (with_section d s.0) end s.1) (λ s. sections_at most k (with_section d s.0) end s.1) (λ s e.
+    let q = section_shrinks most d.last (length d.declared) end (c ∷ bs) s.1 s.0 le e in
+    sections_same most n k (with_section d s.0) end s.1 (omega (arith, q)) (omega (arith, q)) (omega (arith, q)))
+
+header_ends : (len : ℕ) (most : Bounds) (bytes : List ℕ) (v : Result (List ℕ) DecodeFault) → header_at len bytes ≡ v → len ≡ length bytes →
+    value_of (behind_header (file_left len bytes) v >>= λ x. run (andThen (sections_plan len most len no_sections) (at_end len)) x.1) ≡
+    (v >>= λ rest. sections_at most (length rest) no_sections len rest >>= λ d. finished_at len d)
+header_ends len most bytes (Err f) e q = refl
+header_ends len most bytes (Ok rest) e q =
+    let parts = header_takes len bytes rest e in
+    let le : length rest ≤ len = omega (arith, ap length parts, length-append header rest) in
+    ap value_of (run_then (sections_plan len most len no_sections) (at_end len) (file_left len rest)) ∙
+    ap (λ v. value_of (v >>= λ x. run (at_end len x.0) x.1)) (sections_bytes len most len no_sections (file_left len rest) rest le le le) ∙
+    sections_end len rest (sections_at most len no_sections len rest) ∙
+    ap (λ v. v >>= λ d. finished_at len d) (sections_same most len (length rest) no_sections len rest le le (omega arith))
+
+-- the plan of the file gives what the bytes are read as
+module_agrees : (most : Bounds) (bytes : List ℕ) → value_of (run (module_plan most (length bytes)) (whole_file bytes)) ≡ module_at most bytes
+unfolding module_plan module_at accept
+module_agrees most bytes = header_ends (length bytes) most bytes (header_at (length bytes) bytes) refl refl
+
+run_value : {A : Type 0} (v : Result (A × Left) DecodeFault) (x : A) → value_of v ≡ Ok x → (after : Left) × (v ≡ Ok (x, after))
+run_value {A} (Ok y) x e = (y.1, ap (λ (z : A). ok (z, y.1)) (ok_is y.0 x e))
+run_value (Err f) x e = absurd cc
+
+run_fault : {A : Type 0} (v : Result (A × Left) DecodeFault) (f : DecodeFault) → value_of v ≡ Err f → v ≡ Err f
+run_fault (Ok y) f e = absurd cc
+run_fault {A} (Err g) f e = let q : g ≡ f = cc in ap (λ h. failed {A = A × Left} h) q
+
+pub reads_module : (most : Bounds) (bytes : List ℕ) (r : Decoded) → (module_at most bytes ≡ Ok r) ↔ ReadsModule most bytes r
+reads_module most bytes r =
+    let p = module_plan most (length bytes) in
+    let l = whole_file bytes in (
+      λ e. let v = run_value (run p l) r (module_agrees most bytes ∙ e) in let s = run_reads p l r v.0 v.1 in (s.0, v.0, s.1),
+      λ h. sym (module_agrees most bytes) ∙ ap value_of (reads_run p l h.0 r h.1 h.2),
+    )
+
+pub stops_module : (most : Bounds) (bytes : List ℕ) (f : DecodeFault) → (module_at most bytes ≡ Err f) ↔ Fault most bytes f
+stops_module most bytes f =
+    let p = module_plan most (length bytes) in
+    let l = whole_file bytes in (
+      λ e. run_stops p l f (run_fault (run p l) f (module_agrees most bytes ∙ e)),
+      λ h. sym (module_agrees most bytes) ∙ ap value_of (stops_run p l f h),
+    )

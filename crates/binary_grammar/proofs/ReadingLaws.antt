@@ -1,6 +1,7 @@
 -- A plan is read to its end, or stops at the first item that is not accepted.
-use Rattle.std.proofs.Common.{◌≡◌, ℕ, zero, suc, ◌+◌, ◌-◌, List, [], ◌∷◌, Result, Ok, Err, ◌⊎◌, inl, inr, refl, sym, ap, subst, ◌∙◌}
+use Rattle.std.proofs.Common.{◌≡◌, ℕ, zero, suc, ◌+◌, ◌-◌, ◌≤◌, arith, Bool, true, false, length, List, [], ◌∷◌, Result, Ok, Err, ◌⊎◌, inl, inr, refl, sym, ap, subst, ◌∙◌}
 use Rattle.binary_grammar.specs.declared.fault.DecodeFault.{DecodeFault}
+use Rattle.std.specs.Result.{is_ok}
 use Rattle.binary_grammar.specs.Reading.{◌>>=◌}
 use Rattle.binary_grammar.specs.Readings.{Wanted, Given, Left, accept, Plan, Complete, Want, andThen, Item, place_of, Reads, ReadsTo, StopsAt}
 
@@ -51,8 +52,8 @@ run_stops (Want k f) left d e =
     elim (bind_err (accept k left) (λ v. run (f v.0) v.1) d e) [
       | inl h ↦ ([], left, k, f, (refl, refl), h)
       | inr h ↦
-        let s = run_stops (f h.0.0) h.0.1 d h.2 in
-        (item k left h.0.1 ∷ s.0, s.1, s.2, s.3, (refl, refl, h.0, h.1, refl, s.4), s.5)
+          let s = run_stops (f h.0.0) h.0.1 d h.2 in
+          (item k left h.0.1 ∷ s.0, s.1, s.2, s.3, (refl, refl, h.0, h.1, refl, s.4), s.5)
     ]
 
 stopped : {A : Type 0} (p : Plan A) (left : Left) (items : List Item) (after : Left) (k : Wanted) (more : (Given k → Plan A)) (d : DecodeFault) →
@@ -64,3 +65,23 @@ stopped (Want j f) left (i ∷ is) after k more d h e = rw h.3 (stopped (f h.2.0
 
 pub stops_run : {A : Type 0} (p : Plan A) (left : Left) (d : DecodeFault) → StopsAt p left d → run p left ≡ Err d
 stops_run p left d h = stopped p left h.0 h.1 h.2 h.3 d h.4 h.5
+
+-- whether an item is accepted next
+abbrev is_accepted : {A : Type 0} → Plan A → Left → Bool
+is_accepted (Complete x) left = false
+is_accepted (Want k f) left = is_ok (accept k left)
+
+-- no reading goes past an item that is not accepted
+pub longest : {A : Type 0} (p : Plan A) (left : Left) (items others : List Item) (q : Plan A) (after stop : Left) (k : Wanted) (more : (Given k → Plan A)) (d : DecodeFault) →
+    Reads p left items q after → Reads p left others (Want k more) stop → accept k stop ≡ Err d → length items ≤ length others
+longest p left [] others q after stop k more d h g e = omega arith
+longest (Complete x) left (i ∷ is) others q after stop k more d h g e = absurd h
+longest (Want j f) left (i ∷ is) [] q after stop k more d h g e =
+    let no : is_accepted (Want j f) left ≡ false = ap (λ r. is_accepted r left) g.0 ∙ ap (is_accepted (Want k more)) g.1 ∙ ap is_ok e in
+    let taken : is_accepted (Want j f) left ≡ true = ap is_ok h.3 in
+    absurd (let both : true ≡ false = sym taken ∙ no in cc)
+longest {A} (Want j f) left (i ∷ is) (o ∷ os) q after stop k more d h g e =
+    let same : h.2 ≡ g.2 = ok_is h.2 g.2 (sym h.3 ∙ g.3) in
+    let next : Reads (f g.2.0) g.2.1 is q after = subst (λ (x : Given j × Left). Reads (f x.0) x.1 is q after) same h.5 in
+    let r = longest (f g.2.0) g.2.1 is os q after stop k more d next g.5 e in
+    omega (arith, r)

@@ -26,6 +26,7 @@ use Rattle.binary_grammar.specs.declared.section.Section.TheVariants as section
 use Rattle.binary_grammar.specs.declared.section.Draft.{Draft}
 use Rattle.binary_grammar.specs.declared.section.Decoded.{Decoded}
 use Rattle.binary_grammar.specs.declared.fault.DecodeFault.{DecodeFault}
+use Rattle.binary_grammar.specs.declared.fault.DecodeFault.TheVariants.{Malformed, Limit, OutOfMemory}
 use Rattle.wasm_syntax.specs.declared.module.ImportKind.{ImportKind}
 use Rattle.wasm_syntax.specs.declared.module.ImportKind.TheVariants as import
 use Rattle.wasm_syntax.specs.declared.module.ExportKind.{ExportKind}
@@ -204,9 +205,9 @@ contents_plan len most declared id =
 unfoldable pub sections_plan : ℕ → Bounds → ℕ → Draft → Plan Draft
 sections_plan len most zero d = Want (Next d.last) (λ o. Complete d)
 sections_plan len most (suc n) d = Want (Next d.last) (λ o. elim o as (λ v. Plan Draft) [
-    | None ↦ Complete d
-    | Some id ↦ andThen (sized_plan (contents_plan len most (length d.declared) id)) (λ s. sections_plan len most n (with_section d s))
-  ])
+  | None ↦ Complete d
+  | Some id ↦ andThen (sized_plan (contents_plan len most (length d.declared) id)) (λ s. sections_plan len most n (with_section d s))
+])
 
 -- A module's bytes, of which there are so many.
 unfoldable pub module_plan : Bounds → ℕ → Plan Decoded
@@ -224,3 +225,9 @@ ReadsModule most bytes r = ReadsTo (module_plan most (length bytes)) (whole_file
 -- The bytes' longest reading is not complete, and this is the place and the word that the item gives that is wanted next.
 abbrev pub Fault : Bounds → List ℕ → DecodeFault → Type 0
 Fault most bytes f = StopsAt (module_plan most (length bytes)) (whole_file bytes) f
+
+-- What a refusal is: the bytes' fault, or want of memory.
+abbrev pub Refused : Bounds → List ℕ → DecodeFault → Type 0
+Refused most bytes OutOfMemory = Unit {0}
+Refused most bytes (Malformed at w) = Fault most bytes (Malformed at w)
+Refused most bytes (Limit at w) = Fault most bytes (Limit at w)

@@ -1,7 +1,9 @@
-ghost use Rattle.std.specs.Prelude.{◌≡◌, ◌≤◌, ◌-◌, ◌<◌, ℕ, List, [], length, IfOk, OnOk, Ok};
+ghost use Rattle.std.specs.Prelude.{◌≡◌, ◌≤◌, ◌-◌, ◌<◌, ℕ, List, [], length, IfOk, OnOk, IfErr, Ok, Err};
 ghost use Rattle.wasm_syntax.specs.declared.module.Module.{Module};
 ghost use Rattle.wasm_syntax.specs.declared.module.Marks.{Marks};
+ghost use Rattle.binary_grammar.specs.declared.fault.DecodeFault.{DecodeFault};
 ghost use Rattle.binary_grammar.specs.ModuleGrammar.{Spells, InLimits};
+ghost use Rattle.binary_grammar.specs.Plans.{Fault, Refused};
 ghost use Rattle.binary_grammar.specs.Bounds.{the_bounds};
 ghost use Rattle.binary_grammar.specs.Reading.{Gives};
 ghost use Rattle.binary_grammar.specs.SectionReading.{after_of, with_section, no_sections, sections_at, funcs_of, places_of, finished_at, header, magic_at, header_at, module_at};
@@ -259,7 +261,11 @@ pub fn decode(alloc: Global, bytes: &[u8]) -> Result<Decoded, DecodeFault>
     ensures found { IfOk result (λ d. Spells bytes.now d.module d.marks × InLimits the_bounds d.module) }
     // What is spelled so, within the limits, is decoded, unless memory runs out.
     ensures spelled { (m : Module) (k : Marks) → Spells bytes.now m k → InLimits the_bounds m → Gives (λ d. d) result (Ok (record { «module» = m; marks = k })) }
-    // Which fault it is: the first one of the reading, unless memory runs out.
+    // A refusal is the fault of the item that is wanted next behind the longest reading, or want of memory.
+    ensures fault { IfErr result (Refused the_bounds bytes.now) }
+    // Where the bytes have a fault, it is answered, unless memory runs out.
+    ensures refused { (f : DecodeFault) → Fault the_bounds bytes.now f → Gives (λ d. d) result (Err f) }
+    // The same as a function of the bytes.
     ensures exact { Gives (λ d. d) result (module_at the_bounds bytes.now) }
 {
     read_module(alloc, bytes)
