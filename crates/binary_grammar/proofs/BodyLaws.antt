@@ -1,24 +1,23 @@
 -- Locals, regions and bodies are read exactly.
-use Rattle.std.proofs.Common.{◌≡◌, ℕ, zero, suc, ◌+◌, ◌-◌, ◌<◌, ◌≤◌, Bool, true, false, cond, ltb, eqb, List, [], ◌∷◌, ◌++◌, length, take, drop, Option, Some, None, Result, Ok, Err, ◌⊎◌, inl, inr, refl, sym, ap, subst, ◌∙◌, append_assoc, arith}
-use Rattle.std.specs.List.{AllByRecursion}
-use Rattle.std.proofs.lemmas.Bool.{ltb-true, ltb-false, lt-ltb, le-ltb, eqb-true, eq-eqb}
-use Rattle.std.proofs.lemmas.List.{append-nil, length-append, take_at, drop_at, take-append-drop, length-take, length-drop, nil_from_length}
+use Rattle.std.proofs.Common.{◌≡◌, ℕ, zero, suc, ◌+◌, ◌-◌, ◌≤◌, false, cond, ltb, eqb, List, [], ◌∷◌, ◌++◌, length, take, drop, Result, Ok, Err, inl, inr, refl, sym, ap, subst, ◌∙◌, append_assoc, arith}
+use Rattle.std.proofs.lemmas.Bool.{ltb-false, le-ltb, eqb-true}
+use Rattle.std.proofs.lemmas.List.{append-nil, length-append, take_at, drop_at, take-append-drop, length-take, nil_from_length}
 use Rattle.wasm_values.specs.declared.number.ValType.{ValType}
 use Rattle.binary_grammar.specs.declared.fault.DecodeFault.{DecodeFault}
-use Rattle.binary_grammar.specs.declared.fault.DecodeFault.TheVariants.{Malformed, Limit, OutOfMemory}
+use Rattle.binary_grammar.specs.declared.fault.DecodeFault.TheVariants.{Malformed, Limit}
 use Rattle.binary_grammar.specs.declared.fault.DecodeWord.TheVariants as word
 use Rattle.binary_grammar.specs.declared.fault.LimitWord.TheVariants as limit
 use Rattle.binary_grammar.specs.declared.section.Body.{Body}
 use Rattle.binary_grammar.specs.Bounds.{copies}
 use Rattle.binary_grammar.specs.Reading.{◌>>=◌, Reader, place, then_at, done_at, number_at, region_at, ended, sized_at}
 use Rattle.binary_grammar.specs.TypeReading.{value_type_at}
-use Rattle.binary_grammar.specs.CodeReading.{expression_at, run_of_locals_at, runs_at, locals_at, body_contents_at, body_at}
-use Rattle.binary_grammar.specs.Grammar.{Spelling, Then, Done, SpellsNumber, Each, SpellsValueType}
-use Rattle.binary_grammar.specs.CodeGrammar.{SpellsExpression, SpellsRun, locals_of, Runs, SpellsLocals, OfLength, Sized, SpellsBodyContents, SpellsBody, NestsAtMost}
+use Rattle.binary_grammar.specs.CodeReading.{run_of_locals_at, runs_at, locals_at, body_contents_at, body_at}
+use Rattle.binary_grammar.specs.Grammar.{Spelling, Then, Done, SpellsNumber, Each}
+use Rattle.binary_grammar.specs.CodeGrammar.{SpellsRun, locals_of, Runs, SpellsLocals, OfLength, Sized, SpellsBodyContents, SpellsBody, NestsAtMost}
 use Rattle.binary_grammar.proofs.NumberLaws.{chosen}
-use Rattle.binary_grammar.proofs.Exact.{Limited, Free, Taken, Exact, Splits, ok, ok_is, bind_ok, place_after, shorter, exact_then, exact_done, free, exact_number}
+use Rattle.binary_grammar.proofs.Exact.{Limited, Free, Exact, ok, ok_is, bind_ok, place_after, shorter, exact_then, exact_done, free, exact_number}
 use Rattle.binary_grammar.proofs.TypeLaws.{exact_value_type}
-use Rattle.binary_grammar.proofs.CodeLaws.{Nested, exact_expression}
+use Rattle.binary_grammar.proofs.CodeLaws.{exact_expression}
 
 abbrev err : {A : Type 0} → DecodeFault → Result A DecodeFault
 err e = Err e

@@ -1,32 +1,24 @@
 -- Expressions and bodies are read exactly.
-use Rattle.std.proofs.Common.{◌≡◌, ℕ, zero, suc, ◌+◌, ◌-◌, ◌<◌, ◌≤◌, Bool, true, false, cond, ltb, leb, List, [], ◌∷◌, ◌++◌, length, Option, Some, None, Result, Ok, Err, ◌⊎◌, inl, inr, refl, sym, ap, subst, ◌∙◌, append_assoc, arith}
-use Rattle.std.specs.List.{AllByRecursion}
-use Rattle.std.proofs.lemmas.Bool.{ltb-true, ltb-false, lt-ltb, le-ltb, leb-true, leb-false, le-leb, lt-leb}
+use Rattle.std.proofs.Common.{◌≡◌, ℕ, zero, suc, ◌+◌, ◌<◌, ◌≤◌, Bool, true, false, cond, ltb, List, [], ◌∷◌, ◌++◌, length, Ok, inl, inr, refl, sym, ap, subst, ◌∙◌, append_assoc, arith}
+use Rattle.std.proofs.lemmas.Bool.{ltb-false, le-ltb, leb-true, leb-false, lt-leb}
 use Rattle.std.proofs.lemmas.List.{append-nil, length-append}
-use Rattle.wasm_values.specs.declared.number.ValType.{ValType}
 use Rattle.wasm_syntax.specs.declared.instr.Instr.{Instr}
-use Rattle.wasm_syntax.specs.declared.instr.Instr.TheVariants as instr
-use Rattle.wasm_syntax.specs.declared.instr.Plain.TheVariants as plain
 use Rattle.wasm_syntax.specs.declared.flat.Flat.{Flat}
 use Rattle.wasm_syntax.specs.declared.flat.Flat.TheVariants.{One, Block, Loop, If, Else, End}
 use Rattle.wasm_syntax.specs.declared.kind.Opcode.{Opcode}
 use Rattle.wasm_syntax.specs.declared.kind.Opcode.TheVariants as op
-use Rattle.wasm_syntax.specs.Opcodes.{code_of}
 use Rattle.wasm_syntax.specs.FlatForm.{is_simple, flat, flat_body}
-use Rattle.wasm_syntax.specs.Parts.{Part, own, may_turn, then_item, then_items, parts_of, StandFor}
+use Rattle.wasm_syntax.specs.Parts.{Part, own, may_turn, then_item, parts_of, StandFor}
 use Rattle.wasm_syntax.proofs.PartLemmas.{finished, some_marks, parts_of-push, parts_of-none, StandFor-new}
 use Rattle.wasm_syntax.proofs.PartLaws.{parts_of-flat}
-use Rattle.binary_grammar.specs.declared.fault.DecodeFault.{DecodeFault}
-use Rattle.binary_grammar.specs.declared.fault.DecodeFault.TheVariants.{Malformed, Limit, OutOfMemory}
-use Rattle.binary_grammar.specs.declared.fault.DecodeWord.TheVariants as word
-use Rattle.binary_grammar.specs.Reading.{◌>>=◌, Reader, place, then_at, done_at}
+use Rattle.binary_grammar.specs.Reading.{◌>>=◌, place}
 use Rattle.binary_grammar.specs.CodeReading.{item_at, is_last, own_instrs, rest_at, expression_at, instrs_at}
-use Rattle.binary_grammar.specs.Grammar.{Spelling, Then, Done, Tagged, Each}
-use Rattle.binary_grammar.specs.CodeGrammar.{InstrOf, ItemOf, SpellsItem, SpellsExpression, SpellsInstrs, WithIndex, WithTwo, WithZero, Never, opened, MayOpen, OpenAtMost, NestsAtMost}
+use Rattle.binary_grammar.specs.Grammar.{Then, Done, Tagged, Each}
+use Rattle.binary_grammar.specs.CodeGrammar.{InstrOf, ItemOf, SpellsItem, SpellsExpression, SpellsInstrs, opened, MayOpen, OpenAtMost, NestsAtMost}
 use Rattle.binary_grammar.proofs.NumberLaws.{chosen}
-use Rattle.binary_grammar.proofs.Exact.{Limited, Free, Taken, Exact, Splits, ok, ok_is, bind_ok, place_after, shorter, exact_then, exact_done}
+use Rattle.binary_grammar.proofs.Exact.{Limited, Exact, ok, ok_is, bind_ok, place_after, shorter, exact_then, exact_done}
 use Rattle.binary_grammar.proofs.ItemLaws.{Stands, exact_item}
-use Rattle.binary_grammar.proofs.Follow.{MayFollow, Follow, follow-flat, Marked, next_marked}
+use Rattle.binary_grammar.proofs.Follow.{MayFollow, Follow, follow-flat, next_marked}
 
 -- ---- single instructions
 

@@ -1,20 +1,13 @@
 -- A reader takes from the front exactly what a spelling has, within limits.
-use Rattle.std.proofs.Common.{◌≡◌, ℕ, zero, suc, ◌+◌, ◌-◌, ◌<◌, ◌≤◌, Bool, true, false, cond, ltb, eqb, List, [], ◌∷◌, ◌++◌, length, take, drop, Option, Some, None, Result, Ok, Err, ◌⊎◌, inl, inr, refl, sym, ap, subst, ◌∙◌, append_assoc, arith}
+use Rattle.std.proofs.Common.{◌≡◌, ℕ, zero, suc, ◌+◌, ◌≤◌, List, [], ◌∷◌, ◌++◌, length, Result, Ok, Err, refl, sym, ap, subst, ◌∙◌, append_assoc, arith}
 use Rattle.std.specs.List.{AllByRecursion}
-use Rattle.std.proofs.lemmas.Bool.{cases_lt, ltb-true, ltb-false, lt-ltb, le-ltb, eqb-true, eq-eqb}
-use Rattle.std.proofs.lemmas.List.{length-append, append-nil, take_at, drop_at, take-append-drop, length-take, length-drop, nil_from_length}
-use Rattle.std.specs.Str.{IsUtf8, is_utf8}
-use Rattle.std.proofs.lemmas.Str.{IsUtf8-from_is_utf8, is_utf8-from_IsUtf8}
+use Rattle.std.proofs.lemmas.List.{length-append, append-nil}
 use Rattle.binary_grammar.specs.declared.fault.DecodeFault.{DecodeFault}
-use Rattle.binary_grammar.specs.declared.fault.DecodeFault.TheVariants.{Malformed, Limit, OutOfMemory}
-use Rattle.binary_grammar.specs.declared.fault.DecodeWord.TheVariants as word
-use Rattle.binary_grammar.specs.declared.fault.LimitWord.{LimitWord}
 use Rattle.binary_grammar.specs.declared.fault.LebFault.{LebFault}
-use Rattle.binary_grammar.specs.Numbers.{SpellsU32}
 use Rattle.binary_grammar.specs.NumberReading.{u32_at}
-use Rattle.binary_grammar.specs.Reading.{◌>>=◌, Reader, place, then_at, done_at, of_number, number_at, byte_at, of_byte, tagged_at, entries_at, vector_at, limited_at, list_at, run_at, bytes_at, text_of, text_at, name_at}
-use Rattle.binary_grammar.specs.Grammar.{Spelling, Then, Done, Tagged, TheByte, SpellsNumber, Each, Many, SpellsVector, SpellsList, Bytes, SpellsBytes, Utf8, SpellsName}
-use Rattle.binary_grammar.proofs.NumberLaws.{chosen, u32_takes, u32_again}
+use Rattle.binary_grammar.specs.Reading.{◌>>=◌, Reader, place, then_at, done_at, of_number, number_at, byte_at, of_byte, tagged_at, entries_at, vector_at, list_at}
+use Rattle.binary_grammar.specs.Grammar.{Spelling, Then, Done, Tagged, SpellsNumber, Each, Many, SpellsVector, SpellsList}
+use Rattle.binary_grammar.proofs.NumberLaws.{u32_takes, u32_again}
 
 abbrev pub Limited : Type 0 → Type 1
 Limited A = A → Type 0

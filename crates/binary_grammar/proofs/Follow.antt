@@ -1,6 +1,6 @@
 -- In the flat form of instructions each item may follow those before it.
-use Rattle.std.proofs.Common.{◌≡◌, ℕ, zero, suc, ◌+◌, ◌-◌, ◌<◌, ◌≤◌, Bool, true, false, List, [], ◌∷◌, ◌++◌, length, set, map, Option, Some, None, refl, sym, ap, subst, ◌∙◌, append_assoc, arith}
-use Rattle.std.proofs.lemmas.List.{append-nil, length-append, length-set}
+use Rattle.std.proofs.Common.{◌≡◌, ℕ, suc, ◌+◌, ◌-◌, ◌<◌, Bool, true, false, List, [], ◌∷◌, ◌++◌, length, set, map, Option, Some, None, refl, sym, ap, subst, ◌∙◌, arith}
+use Rattle.std.proofs.lemmas.List.{length-append, length-set}
 use Rattle.wasm_values.specs.declared.number.ValType.{ValType}
 use Rattle.wasm_syntax.specs.declared.instr.Instr.{Instr, Plain, Num, Const, LocalGet, LocalSet, LocalTee, GlobalGet, GlobalSet, Load, Store, Br, BrIf, BrTable, Call, CallIndirect}
 use Rattle.wasm_syntax.specs.declared.instr.Instr.TheVariants as instr
@@ -13,7 +13,7 @@ use Rattle.wasm_syntax.specs.declared.flat.Flat.TheVariants.{One, Block, Loop, I
 use Rattle.wasm_syntax.specs.declared.flat.Head.{Head}
 use Rattle.wasm_syntax.specs.declared.flat.Head.TheVariants as head
 use Rattle.wasm_syntax.specs.FlatForm.{is_simple, flat_of, flat}
-use Rattle.wasm_syntax.specs.Parts.{Part, own, begun, with_instr, turned, with_last, closed, may_turn, part_turns, head_item, then_item, then_items, parts_of, StandFor}
+use Rattle.wasm_syntax.specs.Parts.{Part, begun, with_instr, turned, with_last, may_turn, part_turns, head_item, then_item, then_items, parts_of, StandFor}
 use Rattle.wasm_syntax.proofs.FlatLemmas.{flat_of-Block, flat_of-Loop, flat_of-If, flat_of-If_Else, flat_of-simple}
 use Rattle.wasm_syntax.proofs.PartLemmas.{some_marks, StandFor-put, StandFor-begin, StandFor-turn, StandFor-end}
 use Rattle.wasm_syntax.proofs.PartLaws.{with_instrs, then_items-flat_of, then_items-flat}

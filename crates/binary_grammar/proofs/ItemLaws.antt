@@ -1,5 +1,5 @@
 -- Instructions are read exactly.
-use Rattle.std.proofs.Common.{◌≡◌, ℕ, zero, suc, ◌+◌, ◌-◌, ◌<◌, ◌≤◌, Bool, true, false, cond, ltb, List, [], ◌∷◌, ◌++◌, length, Option, Some, None, Result, Ok, Err, ◌⊎◌, inl, inr, refl, sym, ap, subst, ◌∙◌, arith, ℤ}
+use Rattle.std.proofs.Common.{◌≡◌, ℕ, ◌≤◌, Bool, true, false, List, ◌++◌, length, Option, Ok, Err, refl, sym, ap, subst, ◌∙◌}
 use Rattle.std.specs.Int.{w32, w64, cast_unsigned}
 use Rattle.wasm_values.specs.declared.number.ValType.{ValType}
 use Rattle.wasm_values.specs.declared.number.Val.TheVariants as val
@@ -13,22 +13,19 @@ use Rattle.wasm_syntax.specs.declared.kind.Opcode.TheVariants.{Unreachable, Nop,
 use Rattle.wasm_syntax.specs.declared.kind.Kind.{Kind}
 use Rattle.wasm_syntax.specs.declared.kind.Kind.TheVariants as kind
 use Rattle.wasm_syntax.specs.Opcodes.{code_of, kind_of}
-use Rattle.wasm_syntax.specs.FlatForm.{is_simple}
 use Rattle.wasm_syntax.proofs.OpcodeLaws.{kind_of-code_of, code_of-kind_of}
-use Rattle.binary_grammar.specs.declared.fault.LebFault.{LebFault}
 use Rattle.binary_grammar.specs.declared.fault.DecodeFault.{DecodeFault}
-use Rattle.binary_grammar.specs.declared.fault.DecodeFault.TheVariants.{Malformed, Limit, OutOfMemory}
+use Rattle.binary_grammar.specs.declared.fault.DecodeFault.TheVariants.{Malformed}
 use Rattle.binary_grammar.specs.declared.fault.DecodeWord.TheVariants.{Byte}
-use Rattle.binary_grammar.specs.Numbers.{SpellsS32, SpellsS64}
 use Rattle.binary_grammar.specs.NumberReading.{s32_at, s64_at}
-use Rattle.binary_grammar.specs.Reading.{◌>>=◌, Reader, place, then_at, done_at, of_number, number_at, list_at}
-use Rattle.binary_grammar.specs.TypeReading.{tag_at, block_type_at}
+use Rattle.binary_grammar.specs.Reading.{Reader, place, then_at, done_at, of_number, number_at}
+use Rattle.binary_grammar.specs.TypeReading.{tag_at}
 use Rattle.binary_grammar.specs.CodeReading.{word32_at, word64_at, index_at, indexed_at, simple_at, head_at, op_at, kind_at, item_at}
-use Rattle.binary_grammar.specs.Grammar.{Spelling, Then, Done, Tagged, TheByte, SpellsNumber, Each, SpellsList, SpellsBlockType}
+use Rattle.binary_grammar.specs.Grammar.{Spelling, Then, Done, SpellsBlockType}
 use Rattle.binary_grammar.specs.CodeGrammar.{SpellsWord32, SpellsWord64, WithIndex, WithTwo, WithZero, Never, InstrOf, ItemOf, SpellsItem}
 use Rattle.binary_grammar.proofs.NumberLaws.{s32_takes, s32_again, s64_takes, s64_again}
-use Rattle.binary_grammar.proofs.Exact.{Limited, Free, Taken, Exact, Splits, ok, ok_is, bind_ok, exact_then, exact_done, free, exact_number, number_ok, exact_tagged, exact_list}
-use Rattle.binary_grammar.proofs.TypeLaws.{exact_tag, exact_block_type, list_free, none_limited}
+use Rattle.binary_grammar.proofs.Exact.{Limited, Free, Taken, Exact, ok, ok_is, bind_ok, exact_then, exact_done, free, exact_number, number_ok, exact_tagged}
+use Rattle.binary_grammar.proofs.TypeLaws.{exact_tag, exact_block_type, list_free}
 
 -- ---- constants
 

@@ -1,13 +1,12 @@
 -- Modules are read exactly, within the limits.
-use Rattle.std.proofs.Common.{◌≡◌, ℕ, zero, suc, ◌+◌, ◌-◌, ◌<◌, ◌≤◌, Bool, true, false, cond, ltb, eqb, List, [], ◌∷◌, ◌++◌, length, map, Option, Some, None, Result, Ok, Err, ◌⊎◌, inl, inr, refl, sym, ap, subst, ◌∙◌, append_assoc, arith}
+use Rattle.std.proofs.Common.{◌≡◌, ℕ, zero, suc, ◌<◌, ◌≤◌, ltb, eqb, List, [], ◌∷◌, ◌++◌, length, Result, Ok, Err, inl, inr, refl, sym, ap, subst, ◌∙◌, arith}
 use Rattle.std.specs.List.{AllByRecursion}
-use Rattle.std.proofs.lemmas.Bool.{ltb-true, ltb-false, lt-ltb, le-ltb, eqb-true, eq-eqb}
-use Rattle.std.proofs.lemmas.List.{append-nil, length-append, nil_from_length}
-use Rattle.wasm_syntax.specs.declared.module.Func.{Func}
+use Rattle.std.proofs.lemmas.Bool.{le-ltb, eqb-true, eq-eqb}
+use Rattle.std.proofs.lemmas.List.{length-append, nil_from_length}
 use Rattle.wasm_syntax.specs.declared.module.Module.{Module}
 use Rattle.wasm_syntax.specs.declared.module.Marks.{Marks}
 use Rattle.binary_grammar.specs.declared.fault.DecodeFault.{DecodeFault}
-use Rattle.binary_grammar.specs.declared.fault.DecodeFault.TheVariants.{Malformed, Limit, OutOfMemory}
+use Rattle.binary_grammar.specs.declared.fault.DecodeFault.TheVariants.{Malformed}
 use Rattle.binary_grammar.specs.declared.fault.DecodeWord.TheVariants as word
 use Rattle.binary_grammar.specs.declared.section.Body.{Body}
 use Rattle.binary_grammar.specs.declared.section.Section.{Section}
@@ -15,14 +14,13 @@ use Rattle.binary_grammar.specs.declared.section.Section.TheVariants as section
 use Rattle.binary_grammar.specs.declared.section.Draft.{Draft}
 use Rattle.binary_grammar.specs.declared.section.Decoded.{Decoded}
 use Rattle.binary_grammar.specs.Bounds.{Bounds}
-use Rattle.binary_grammar.specs.Reading.{◌>>=◌, Reader, place}
+use Rattle.binary_grammar.specs.Reading.{◌>>=◌, place}
 use Rattle.binary_grammar.specs.SectionReading.{section_at, with_section, no_sections, sections_at, funcs_of, whole_module, finished_at, header, magic_at, header_at, module_at}
-use Rattle.binary_grammar.specs.CodeGrammar.{NestsAtMost}
-use Rattle.binary_grammar.specs.ModuleGrammar.{id_of, SpellsSection, InTurn, InOrder, Counts, MayStand, with_sections, Spells, FuncTypeWithin, GlobalWithin, ElemWithin, SegmentWithin, FuncWithin, InLimits}
+use Rattle.binary_grammar.specs.ModuleGrammar.{id_of, SpellsSection, InTurn, InOrder, MayStand, with_sections, Spells, FuncTypeWithin, GlobalWithin, ElemWithin, SegmentWithin, FuncWithin, InLimits}
 use Rattle.binary_grammar.proofs.NumberLaws.{chosen}
-use Rattle.binary_grammar.proofs.Exact.{Limited, Taken, Exact, ok, ok_is, bind_ok, place_after, shorter}
+use Rattle.binary_grammar.proofs.Exact.{ok, ok_is, bind_ok, place_after, shorter}
 use Rattle.binary_grammar.proofs.BodyLaws.{BodyWithin}
-use Rattle.binary_grammar.proofs.SectionLaws.{SectionWithin, Fits, Stood, exact_section, some_section}
+use Rattle.binary_grammar.proofs.SectionLaws.{SectionWithin, exact_section, some_section}
 
 abbrev err : {A : Type 0} → DecodeFault → Result A DecodeFault
 err e = Err e

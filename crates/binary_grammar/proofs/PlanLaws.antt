@@ -1,8 +1,6 @@
 -- A plan gives what its reader gives.
-use Rattle.std.proofs.Common.{◌≡◌, ℕ, zero, suc, ◌+◌, ◌-◌, ◌<◌, ◌≤◌, Bool, true, false, cond, ltb, leb, eqb, List, [], ◌∷◌, ◌++◌, length, Option, Some, None, Result, Ok, Err, ◌⊎◌, inl, inr, refl, sym, ap, subst, ◌∙◌, append_assoc, arith}
-use Rattle.std.specs.List.{AllByRecursion}
-use Rattle.std.proofs.lemmas.Bool.{ltb-true, ltb-false, lt-ltb, le-ltb, eqb-true, eqb-false, eq-eqb, ne_eqb}
-use Rattle.std.proofs.lemmas.List.{append-nil, length-append, nil_from_length}
+use Rattle.std.proofs.Common.{◌≡◌, ℕ, zero, suc, ◌<◌, ◌≤◌, Bool, true, false, cond, ltb, List, [], ◌∷◌, length, Option, Some, None, Result, Ok, Err, inl, inr, refl, sym, ap, subst, ◌∙◌, arith}
+use Rattle.std.proofs.lemmas.List.{length-append, nil_from_length}
 use Rattle.wasm_values.specs.declared.number.ValType.{ValType}
 use Rattle.wasm_values.specs.declared.number.Val.TheVariants as val
 use Rattle.wasm_syntax.specs.declared.instr.Instr.{Instr}
@@ -14,36 +12,25 @@ use Rattle.wasm_syntax.specs.declared.kind.Opcode.{Opcode}
 use Rattle.wasm_syntax.specs.declared.kind.Opcode.TheVariants as op
 use Rattle.wasm_syntax.specs.declared.kind.Kind.{Kind}
 use Rattle.wasm_syntax.specs.declared.kind.Kind.TheVariants as kind
-use Rattle.wasm_syntax.specs.declared.module.ImportKind.{ImportKind}
-use Rattle.wasm_syntax.specs.declared.module.ImportKind.TheVariants as import
-use Rattle.wasm_syntax.specs.declared.module.ExportKind.{ExportKind}
-use Rattle.wasm_syntax.specs.declared.module.ExportKind.TheVariants as export
 use Rattle.wasm_syntax.specs.Opcodes.{kind_of}
 use Rattle.wasm_syntax.specs.Parts.{Part, own, may_turn, then_item}
 use Rattle.binary_grammar.specs.declared.fault.DecodeFault.{DecodeFault}
-use Rattle.binary_grammar.specs.declared.fault.DecodeFault.TheVariants.{Malformed, Limit, OutOfMemory}
+use Rattle.binary_grammar.specs.declared.fault.DecodeFault.TheVariants.{Malformed, Limit}
 use Rattle.binary_grammar.specs.declared.fault.DecodeWord.TheVariants as word
 use Rattle.binary_grammar.specs.declared.fault.LimitWord.{LimitWord}
 use Rattle.binary_grammar.specs.declared.fault.LimitWord.TheVariants as limit
-use Rattle.binary_grammar.specs.declared.section.Body.{Body}
-use Rattle.binary_grammar.specs.declared.section.Section.{Section}
-use Rattle.binary_grammar.specs.declared.section.Section.TheVariants as section
-use Rattle.binary_grammar.specs.declared.section.Draft.{Draft}
-use Rattle.binary_grammar.specs.declared.section.Decoded.{Decoded}
-use Rattle.binary_grammar.specs.Bounds.{Bounds, copies}
-use Rattle.binary_grammar.specs.Reading.{◌>>=◌, Reader, place, then_at, done_at, of_byte, tagged_at, number_at, byte_at, entries_at, vector_at, limited_at, list_at, run_at, bytes_at, text_at, name_at, region_at, ended, sized_at}
-use Rattle.binary_grammar.specs.TypeReading.{value_type_at, tag_at, flag_at, block_type_at, func_type_at, greatest_at, limits_at, table_type_at, global_type_at, import_kind_of, import_kind_at, import_at, export_kind_of, export_kind_at, export_at}
-use Rattle.binary_grammar.specs.CodeReading.{word32_at, word64_at, index_at, indexed_at, simple_at, head_at, op_at, kind_at, item_at, is_last, own_instrs, rest_at, expression_at, instrs_at, run_of_locals_at, runs_at, locals_at, body_contents_at, body_at}
-use Rattle.binary_grammar.specs.SectionReading.{global_at, elem_at, segment_at, custom_at, bodies_at, types_at, imports_at, funcs_at, tables_at, memories_at, globals_at, exports_at, start_at, elems_at, segments_at, contents_at, id_at, section_at, with_section, no_sections, sections_at, whole_module, finished_at, header_at, module_at}
+use Rattle.binary_grammar.specs.Reading.{◌>>=◌, Reader, place, then_at, done_at, of_byte, tagged_at, number_at, byte_at, entries_at, vector_at, limited_at, list_at, run_at, bytes_at, text_at, name_at}
+use Rattle.binary_grammar.specs.TypeReading.{value_type_at, tag_at, flag_at, block_type_at, func_type_at, greatest_at, limits_at, table_type_at, global_type_at}
+use Rattle.binary_grammar.specs.CodeReading.{word32_at, word64_at, index_at, indexed_at, simple_at, head_at, op_at, kind_at, item_at, is_last, own_instrs, rest_at, expression_at, instrs_at}
 use Rattle.binary_grammar.specs.Grammar.{Spelling}
-use Rattle.binary_grammar.specs.Readings.{Wanted, Header, Next, FileEnd, Size, RegionEnd, Number, Few, Count, RunCount, Word32, Word64, Utf8, Bytes, Rest, ValueType, BlockType, Tag, Flag, KindByte, Op, Here, Given, Left, local, few_at, count_at, run_count_at, rest_of_region, kind_byte_of, opening, turning, opcode_of, kind_accepted, next_of, left_by, accept, Plan, Complete, Want, andThen}
-use Rattle.binary_grammar.specs.Plans.{one, entries_plan, vector_plan, limited_plan, list_plan, bytes_plan, name_plan, sized_plan, func_type_plan, greatest_plan, limits_plan, table_type_plan, global_type_plan, imported_plan, import_plan, exported_plan, export_plan, indexed_plan, two_plan, zero_plan, instr_plan, op_plan, item_plan, rest_plan, expression_plan, instrs_plan, runs_plan, locals_plan, body_plan, global_plan, elem_plan, segment_plan, contents_plan, sections_plan, module_plan, whole_file}
+use Rattle.binary_grammar.specs.Readings.{Number, Few, Word32, Word64, Utf8, Bytes, ValueType, BlockType, Tag, Flag, Left, local, few_at, opcode_of, kind_accepted, accept, Plan, Complete, Want, andThen}
+use Rattle.binary_grammar.specs.Plans.{one, entries_plan, vector_plan, limited_plan, list_plan, bytes_plan, name_plan, func_type_plan, greatest_plan, limits_plan, table_type_plan, global_type_plan, indexed_plan, two_plan, zero_plan, instr_plan, op_plan, item_plan, rest_plan, expression_plan, instrs_plan}
 use Rattle.binary_grammar.proofs.ReadingLaws.{run}
 use Rattle.binary_grammar.proofs.NumberLaws.{chosen}
-use Rattle.binary_grammar.proofs.Exact.{Limited, Free, Taken, Exact, ok, ok_is, bind_ok, exact_then, exact_done, free, exact_number, exact_entries, exact_vector}
-use Rattle.binary_grammar.proofs.TypeLaws.{exact_tag, exact_flag, exact_value_type, exact_block_type, exact_run, exact_text, exact_name, exact_bytes, exact_limited, exact_func_type, exact_limits, exact_table_type, exact_global_type, exact_import_kind, exact_import, exact_export_kind, exact_export, list_free}
-use Rattle.binary_grammar.proofs.CodeLaws.{some_text, exact_expression, exact_instrs}
-use Rattle.binary_grammar.proofs.ItemLaws.{exact_word32, exact_word64, exact_simple, exact_item}
+use Rattle.binary_grammar.proofs.Exact.{Limited, Exact, ok, ok_is, bind_ok, exact_then, exact_done, free, exact_number, exact_entries, exact_vector}
+use Rattle.binary_grammar.proofs.TypeLaws.{exact_tag, exact_flag, exact_value_type, exact_limited, list_free}
+use Rattle.binary_grammar.proofs.CodeLaws.{some_text}
+use Rattle.binary_grammar.proofs.ItemLaws.{exact_word32, exact_word64, exact_item}
 
 pub through : {X A B : Type 0} (v : Result X DecodeFault) (f : X → Result A DecodeFault) (h : X → Result B DecodeFault) (g : A → Result B DecodeFault) →
     ((x : X) → h x ≡ (f x >>= g)) → (v >>= h) ≡ ((v >>= f) >>= g)

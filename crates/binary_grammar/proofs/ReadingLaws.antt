@@ -1,9 +1,9 @@
 -- A plan is read to its end, or stops at the first item that is not accepted.
-use Rattle.std.proofs.Common.{◌≡◌, ℕ, zero, suc, ◌+◌, ◌-◌, ◌≤◌, arith, Bool, true, false, length, List, [], ◌∷◌, Result, Ok, Err, ◌⊎◌, inl, inr, refl, sym, ap, subst, ◌∙◌}
+use Rattle.std.proofs.Common.{◌≡◌, ◌-◌, ◌≤◌, arith, Bool, true, false, length, List, [], ◌∷◌, Result, Ok, Err, ◌⊎◌, inl, inr, refl, sym, ap, subst, ◌∙◌}
 use Rattle.binary_grammar.specs.declared.fault.DecodeFault.{DecodeFault}
 use Rattle.std.specs.Result.{is_ok}
 use Rattle.binary_grammar.specs.Reading.{◌>>=◌}
-use Rattle.binary_grammar.specs.Readings.{Wanted, Given, Left, accept, Plan, Complete, Want, andThen, Item, place_of, Reads, ReadsTo, StopsAt}
+use Rattle.binary_grammar.specs.Readings.{Wanted, Given, Left, accept, Plan, Complete, Want, Item, place_of, Reads, StopsAt}
 
 -- what a plan gives, and what is left then; or the fault at which it stops
 abbrev pub run : {A : Type 0} → Plan A → Left → Result (A × Left) DecodeFault

@@ -1,29 +1,28 @@
 -- Sections are read exactly.
-use Rattle.std.proofs.Common.{◌≡◌, ℕ, zero, suc, ◌+◌, ◌-◌, ◌<◌, ◌≤◌, Bool, true, false, not, ◌&&◌, cond, ltb, leb, eqb, List, [], ◌∷◌, ◌++◌, length, Option, Some, None, Result, Ok, Err, ◌⊎◌, inl, inr, refl, sym, ap, subst, ◌∙◌, append_assoc, arith}
+use Rattle.std.proofs.Common.{◌≡◌, ℕ, ◌+◌, ◌<◌, ◌≤◌, Bool, true, false, not, ◌&&◌, cond, ltb, leb, eqb, List, [], ◌∷◌, ◌++◌, length, Result, Ok, Err, ◌⊎◌, inl, inr, refl, sym, ap, subst, ◌∙◌, append_assoc, arith}
 use Rattle.std.specs.List.{AllByRecursion}
-use Rattle.std.proofs.lemmas.Bool.{ltb-true, ltb-false, lt-ltb, le-ltb, leb-true, leb-false, lt-leb, eqb-true, eqb-false, eq-eqb, ne_eqb}
-use Rattle.std.proofs.lemmas.List.{append-nil, length-append}
-use Rattle.wasm_syntax.specs.declared.instr.Instr.{Instr}
+use Rattle.std.proofs.lemmas.Bool.{ltb-false, le-ltb, leb-false, lt-leb, eqb-true, eqb-false, eq-eqb}
+use Rattle.std.proofs.lemmas.List.{append-nil}
 use Rattle.wasm_syntax.specs.declared.module.Global.{Global}
 use Rattle.wasm_syntax.specs.declared.module.Elem.{Elem}
 use Rattle.wasm_syntax.specs.declared.module.Segment.{Segment}
 use Rattle.binary_grammar.specs.declared.fault.DecodeFault.{DecodeFault}
-use Rattle.binary_grammar.specs.declared.fault.DecodeFault.TheVariants.{Malformed, Limit, OutOfMemory}
+use Rattle.binary_grammar.specs.declared.fault.DecodeFault.TheVariants.{Malformed}
 use Rattle.binary_grammar.specs.declared.fault.DecodeWord.TheVariants as word
 use Rattle.binary_grammar.specs.declared.fault.LimitWord.TheVariants as limit
 use Rattle.binary_grammar.specs.declared.section.Body.{Body}
 use Rattle.binary_grammar.specs.declared.section.Section.{Section}
 use Rattle.binary_grammar.specs.declared.section.Section.TheVariants as section
 use Rattle.binary_grammar.specs.Bounds.{Bounds}
-use Rattle.binary_grammar.specs.Reading.{◌>>=◌, Reader, place, then_at, done_at, number_at, byte_at, list_at, entries_at, vector_at, name_at, sized_at}
-use Rattle.binary_grammar.specs.CodeReading.{instrs_at, body_at}
+use Rattle.binary_grammar.specs.Reading.{◌>>=◌, Reader, place, then_at, done_at, number_at, byte_at, entries_at, vector_at, name_at}
+use Rattle.binary_grammar.specs.CodeReading.{body_at}
 use Rattle.binary_grammar.specs.SectionReading.{global_at, elem_at, segment_at, custom_at, bodies_at, types_at, imports_at, funcs_at, tables_at, memories_at, globals_at, exports_at, start_at, elems_at, segments_at, contents_at, id_at, section_at}
-use Rattle.binary_grammar.specs.Grammar.{Spelling, Then, Done, Tagged, SpellsNumber, Many, SpellsVector, SpellsList, SpellsBytes, SpellsName, SpellsFuncType, SpellsLimits, SpellsTableType, SpellsGlobalType, SpellsImport, SpellsExport}
-use Rattle.binary_grammar.specs.CodeGrammar.{SpellsInstrs, OfLength, Sized, SpellsBody, NestsAtMost}
+use Rattle.binary_grammar.specs.Grammar.{Spelling, Then, Done, Tagged, SpellsNumber, Many, SpellsVector, SpellsName, SpellsFuncType, SpellsLimits, SpellsTableType, SpellsImport, SpellsExport}
+use Rattle.binary_grammar.specs.CodeGrammar.{OfLength, Sized, SpellsBody, NestsAtMost}
 use Rattle.binary_grammar.specs.ModuleGrammar.{SpellsGlobal, SpellsElem, SpellsSegment, id_of, SpellsContents, SpellsSection, InOrder, Counts, FuncTypeWithin, GlobalWithin, ElemWithin, SegmentWithin}
 use Rattle.binary_grammar.proofs.NumberLaws.{chosen}
-use Rattle.binary_grammar.proofs.Exact.{Limited, Free, Taken, FirstByte, Exact, Splits, ok, ok_is, bind_ok, place_after, shorter, exact_then, exact_done, free, exact_number, byte_taken, byte_again, exact_as, exact_entries, exact_vector}
-use Rattle.binary_grammar.proofs.TypeLaws.{exact_name, exact_bytes, exact_limited, exact_func_type, exact_table_type, exact_limits, exact_global_type, exact_import, exact_export, list_free, none_limited, all_free, Few, FewParams}
+use Rattle.binary_grammar.proofs.Exact.{Limited, Exact, Splits, ok, ok_is, bind_ok, place_after, shorter, exact_then, exact_done, free, exact_number, byte_taken, byte_again, exact_as, exact_entries, exact_vector}
+use Rattle.binary_grammar.proofs.TypeLaws.{exact_name, exact_bytes, exact_limited, exact_func_type, exact_table_type, exact_limits, exact_global_type, exact_import, exact_export, list_free, none_limited, all_free}
 use Rattle.binary_grammar.proofs.CodeLaws.{exact_instrs}
 use Rattle.binary_grammar.proofs.BodyLaws.{Whole, whole_of, exact_sized, BodyWithin, exact_body}
 

@@ -1,32 +1,28 @@
 -- Types, limits, imports and exports are read exactly.
-use Rattle.std.proofs.Common.{◌≡◌, ℕ, zero, suc, ◌+◌, ◌-◌, ◌<◌, ◌≤◌, Bool, true, false, cond, ltb, eqb, List, [], ◌∷◌, ◌++◌, length, take, drop, Option, Some, None, Result, Ok, Err, ◌⊎◌, inl, inr, refl, sym, ap, subst, ◌∙◌, append_assoc, arith}
+use Rattle.std.proofs.Common.{◌≡◌, ℕ, ◌≤◌, Bool, true, false, cond, ltb, eqb, List, [], ◌∷◌, ◌++◌, length, take, drop, Option, Some, None, Result, Ok, Err, inl, inr, refl, sym, ap, subst, ◌∙◌, append_assoc, arith}
 use Rattle.std.specs.List.{AllByRecursion}
 use Rattle.std.specs.Prelude.{◌||◌}
-use Rattle.std.proofs.lemmas.Bool.{ltb-true, ltb-false, lt-ltb, le-ltb, eqb-true, eq-eqb}
-use Rattle.std.proofs.lemmas.List.{length-append, append-nil, take_at, drop_at, take-append-drop, length-take, length-drop}
+use Rattle.std.proofs.lemmas.Bool.{ltb-false, le-ltb, eqb-true, eq-eqb}
+use Rattle.std.proofs.lemmas.List.{length-append, take_at, drop_at, take-append-drop, length-take}
 use Rattle.std.specs.Str.{IsUtf8, is_utf8}
 use Rattle.std.proofs.lemmas.Str.{IsUtf8-from_is_utf8, is_utf8-from_IsUtf8}
 use Rattle.wasm_values.specs.declared.number.ValType.{ValType}
 use Rattle.wasm_values.specs.declared.number.ValType.TheVariants.{I32, I64}
 use Rattle.wasm_syntax.specs.declared.module.FuncType.{FuncType}
-use Rattle.wasm_syntax.specs.declared.module.Limits.{Limits}
-use Rattle.wasm_syntax.specs.declared.module.GlobalType.{GlobalType}
-use Rattle.wasm_syntax.specs.declared.module.Import.{Import}
 use Rattle.wasm_syntax.specs.declared.module.ImportKind.{ImportKind}
 use Rattle.wasm_syntax.specs.declared.module.ImportKind.TheVariants as import
-use Rattle.wasm_syntax.specs.declared.module.Export.{Export}
 use Rattle.wasm_syntax.specs.declared.module.ExportKind.{ExportKind}
 use Rattle.wasm_syntax.specs.declared.module.ExportKind.TheVariants as export
 use Rattle.binary_grammar.specs.declared.fault.DecodeFault.{DecodeFault}
-use Rattle.binary_grammar.specs.declared.fault.DecodeFault.TheVariants.{Malformed, Limit, OutOfMemory}
+use Rattle.binary_grammar.specs.declared.fault.DecodeFault.TheVariants.{Malformed, Limit}
 use Rattle.binary_grammar.specs.declared.fault.DecodeWord.TheVariants as word
 use Rattle.binary_grammar.specs.declared.fault.LimitWord.{LimitWord}
 use Rattle.binary_grammar.specs.declared.fault.LimitWord.TheVariants.{Params}
-use Rattle.binary_grammar.specs.Reading.{◌>>=◌, Reader, place, then_at, done_at, of_byte, tagged_at, number_at, byte_at, entries_at, vector_at, limited_at, list_at, run_at, bytes_at, text_of, text_at, name_at}
+use Rattle.binary_grammar.specs.Reading.{◌>>=◌, Reader, place, then_at, done_at, number_at, entries_at, vector_at, limited_at, list_at, run_at, bytes_at, text_of, text_at, name_at}
 use Rattle.binary_grammar.specs.TypeReading.{value_type_of, value_type_at, tag_of, tag_at, flag_of, flag_at, block_type_of, block_type_at, func_type_at, greatest_at, limits_at, table_type_at, global_type_at, import_kind_of, import_kind_at, import_at, export_kind_of, export_kind_at, export_at}
-use Rattle.binary_grammar.specs.Grammar.{Spelling, Then, Done, Tagged, TheByte, SpellsNumber, Each, Many, SpellsVector, SpellsList, Bytes, SpellsBytes, Utf8, SpellsName, SpellsValueType, SpellsBlockType, SpellsFuncType, SpellsFlag, SpellsGreatest, SpellsLimits, SpellsTableType, SpellsGlobalType, import_tag, SpellsImported, SpellsImportKind, SpellsImport, export_tag, export_index, SpellsExportKind, SpellsExport}
+use Rattle.binary_grammar.specs.Grammar.{Spelling, Then, Done, TheByte, SpellsNumber, Many, SpellsVector, SpellsList, Bytes, SpellsBytes, Utf8, SpellsName, SpellsValueType, SpellsBlockType, SpellsFuncType, SpellsFlag, SpellsGreatest, SpellsLimits, SpellsTableType, SpellsGlobalType, import_tag, SpellsImported, SpellsImportKind, SpellsImport, export_tag, export_index, SpellsExportKind, SpellsExport}
 use Rattle.binary_grammar.proofs.NumberLaws.{chosen}
-use Rattle.binary_grammar.proofs.Exact.{Limited, Free, Taken, Exact, Splits, ok, ok_is, bind_ok, place_after, shorter, exact_then, exact_done, free, exact_number, exact_byte, exact_as, exact_tagged, exact_map, AllIn, exact_entries, exact_vector, exact_list}
+use Rattle.binary_grammar.proofs.Exact.{Limited, Free, Taken, Exact, Splits, ok, ok_is, bind_ok, place_after, shorter, exact_then, exact_done, free, exact_number, exact_byte, exact_as, exact_tagged, exact_map, exact_entries, exact_vector, exact_list}
 
 abbrev err : {A : Type 0} → DecodeFault → Result A DecodeFault
 err e = Err e

@@ -1,5 +1,5 @@
 -- Bytes spell at most one module.
-use Rattle.std.proofs.Common.{◌≡◌, ℕ, zero, suc, ◌+◌, ◌-◌, ◌<◌, ◌≤◌, List, [], ◌∷◌, ◌++◌, length, Option, Some, None, Result, Ok, Err, refl, sym, ap, subst, ◌∙◌, arith}
+use Rattle.std.proofs.Common.{◌≡◌, ℕ, ◌+◌, ◌<◌, ◌≤◌, List, [], ◌∷◌, length, sym, ap, ◌∙◌, arith}
 use Rattle.std.specs.List.{AllByRecursion}
 use Rattle.wasm_syntax.specs.declared.module.FuncType.{FuncType}
 use Rattle.wasm_syntax.specs.declared.module.Global.{Global}
@@ -13,10 +13,9 @@ use Rattle.wasm_syntax.specs.declared.flat.Flat.TheVariants as item
 use Rattle.wasm_syntax.specs.FlatForm.{flat}
 use Rattle.binary_grammar.specs.declared.section.Decoded.{Decoded}
 use Rattle.binary_grammar.specs.Bounds.{Bounds}
-use Rattle.binary_grammar.specs.SectionReading.{module_at}
 use Rattle.binary_grammar.specs.CodeGrammar.{opened, MayOpen, OpenAtMost, NestsAtMost}
 use Rattle.binary_grammar.specs.ModuleGrammar.{Spells, FuncTypeWithin, GlobalWithin, ElemWithin, SegmentWithin, FuncWithin, InLimits}
-use Rattle.binary_grammar.proofs.Exact.{ok, ok_is}
+use Rattle.binary_grammar.proofs.Exact.{ok_is}
 use Rattle.binary_grammar.proofs.ModuleLaws.{module_again}
 
 -- ---- limits that are wide enough

@@ -1,5 +1,5 @@
 -- Reading instructions, expressions and bodies (Core Specification, 5.4 and 5.5.13).
-use Rattle.std.specs.Prelude.{◌≡◌, ℕ, zero, suc, ◌+◌, ◌-◌, nat_lt, nat_le, ◌==◌, if◌then◌else◌, Bool, true, false, List, [], ◌∷◌, ◌++◌, length, Option, Some, None, Result, Ok, Err, ℤ, IsTrue}
+use Rattle.std.specs.Prelude.{ℕ, zero, suc, ◌+◌, nat_lt, nat_le, if◌then◌else◌, Bool, true, false, List, [], ◌∷◌, ◌++◌, length, Option, Ok, Err, IsTrue}
 use Rattle.std.specs.Int.{w32, w64, cast_unsigned}
 use Rattle.wasm_values.specs.declared.number.ValType.{ValType}
 use Rattle.wasm_values.specs.declared.number.Val.TheVariants as val
@@ -15,8 +15,6 @@ use Rattle.wasm_syntax.specs.declared.kind.Kind.TheVariants as kind
 use Rattle.wasm_syntax.specs.FlatForm.{is_simple}
 use Rattle.wasm_syntax.specs.Opcodes.{kind_of}
 use Rattle.wasm_syntax.specs.Parts.{Part, own, may_turn, then_item}
-use Rattle.binary_grammar.specs.declared.fault.LebFault.{LebFault}
-use Rattle.binary_grammar.specs.declared.fault.DecodeFault.{DecodeFault}
 use Rattle.binary_grammar.specs.declared.fault.DecodeFault.TheVariants.{Malformed, Limit}
 use Rattle.binary_grammar.specs.declared.fault.DecodeWord.TheVariants as word
 use Rattle.binary_grammar.specs.declared.fault.LimitWord.TheVariants.{Nesting, Locals}

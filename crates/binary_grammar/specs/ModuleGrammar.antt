@@ -1,7 +1,6 @@
 -- How sections and modules are spelled (Core Specification, 5.5).
-use Rattle.std.specs.Prelude.{◌≡◌, ℕ, ◌+◌, ◌<◌, ◌≤◌, ◌⊎◌, List, [], ◌∷◌, ◌++◌, length, Option, Some, None}
+use Rattle.std.specs.Prelude.{◌≡◌, ℕ, ◌+◌, ◌<◌, ◌≤◌, ◌⊎◌, List, [], ◌∷◌, ◌++◌, length}
 use Rattle.std.specs.List.{AllByRecursion}
-use Rattle.wasm_syntax.specs.declared.instr.Instr.{Instr}
 use Rattle.wasm_syntax.specs.declared.module.FuncType.{FuncType}
 use Rattle.wasm_syntax.specs.declared.module.Global.{Global}
 use Rattle.wasm_syntax.specs.declared.module.Func.{Func}
@@ -9,11 +8,9 @@ use Rattle.wasm_syntax.specs.declared.module.Elem.{Elem}
 use Rattle.wasm_syntax.specs.declared.module.Segment.{Segment}
 use Rattle.wasm_syntax.specs.declared.module.Module.{Module}
 use Rattle.wasm_syntax.specs.declared.module.Marks.{Marks}
-use Rattle.binary_grammar.specs.declared.section.Body.{Body}
 use Rattle.binary_grammar.specs.declared.section.Section.{Section}
 use Rattle.binary_grammar.specs.declared.section.Section.TheVariants as section
 use Rattle.binary_grammar.specs.declared.section.Draft.{Draft}
-use Rattle.binary_grammar.specs.declared.section.Decoded.{Decoded}
 use Rattle.binary_grammar.specs.Bounds.{Bounds}
 use Rattle.binary_grammar.specs.Grammar.{Spelling, Then, Done, Tagged, SpellsNumber, SpellsVector, SpellsList, SpellsBytes, SpellsName, SpellsFuncType, SpellsLimits, SpellsTableType, SpellsGlobalType, SpellsImport, SpellsExport}
 use Rattle.binary_grammar.specs.CodeGrammar.{SpellsInstrs, Sized, SpellsBody, NestsAtMost}

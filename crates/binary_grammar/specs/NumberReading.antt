@@ -1,6 +1,5 @@
 -- Reading a number from the front of a list, with the first fault that is met.
 use Rattle.std.specs.Prelude.{◌≡◌, ℕ, zero, suc, ◌+◌, ◌-◌, ◌*◌, ◌%◌, ◌^◌, nat_lt, if◌then◌else◌, Bool, List, [], ◌∷◌, length, Result, Ok, Err, ℤ, pos, negsuc}
-use Rattle.std.specs.Int.{Width, w32, w64}
 use Rattle.binary_grammar.specs.declared.fault.LebFault.{LebFault}
 use Rattle.binary_grammar.specs.declared.fault.LebFault.TheVariants.{End, Number}
 use Rattle.binary_grammar.specs.Numbers.{twos_complement}

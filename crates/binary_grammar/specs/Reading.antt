@@ -1,12 +1,11 @@
 -- Reading from the front of the bytes that are left of a region, item by item, with the first fault that is met.
 -- A reader takes the place where the region ends and the bytes that are left, and gives a value and what is left then.
-use Rattle.std.specs.Prelude.{◌≡◌, ℕ, zero, suc, ◌+◌, ◌-◌, nat_lt, ◌==◌, if◌then◌else◌, Bool, List, [], ◌∷◌, length, take, drop, Option, Some, None, Result, Ok, Err}
+use Rattle.std.specs.Prelude.{◌≡◌, ℕ, zero, suc, ◌-◌, nat_lt, ◌==◌, if◌then◌else◌, List, [], ◌∷◌, length, take, drop, Result, Ok, Err}
 use Rattle.binary_grammar.specs.declared.fault.LebFault.{LebFault}
 use Rattle.binary_grammar.specs.declared.fault.LebFault.TheVariants as leb
 use Rattle.binary_grammar.specs.declared.fault.DecodeFault.{DecodeFault}
 use Rattle.binary_grammar.specs.declared.fault.DecodeFault.TheVariants.{Malformed, Limit, OutOfMemory}
-use Rattle.binary_grammar.specs.declared.fault.DecodeWord.{DecodeWord}
-use Rattle.binary_grammar.specs.declared.fault.DecodeWord.TheVariants.{End, Magic, Byte, Order, Size, Number, Utf8, Float, Count}
+use Rattle.binary_grammar.specs.declared.fault.DecodeWord.TheVariants.{End, Size, Number, Utf8}
 use Rattle.binary_grammar.specs.declared.fault.LimitWord.{LimitWord}
 use Rattle.std.specs.Str.{is_utf8}
 use Rattle.binary_grammar.specs.NumberReading.{u32_at}

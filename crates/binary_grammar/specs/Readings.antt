@@ -1,45 +1,20 @@
 -- Readings as lists of items: which kind of item is wanted next is fixed by the items before it.
-use Rattle.std.specs.Prelude.{◌≡◌, ℕ, zero, suc, ◌+◌, ◌-◌, nat_lt, ◌==◌, ◌||◌, ◌&&◌, if◌then◌else◌, Bool, true, false, List, [], ◌∷◌, ◌++◌, length, Option, Some, None, Result, Ok, Err}
+use Rattle.std.specs.Prelude.{◌≡◌, ℕ, ◌+◌, ◌-◌, nat_lt, ◌==◌, if◌then◌else◌, Bool, true, false, List, [], ◌∷◌, Option, Some, None, Result, Ok, Err}
 use Rattle.wasm_values.specs.declared.number.ValType.{ValType}
-use Rattle.wasm_values.specs.declared.number.Val.TheVariants as val
-use Rattle.wasm_syntax.specs.declared.instr.Instr.{Instr}
-use Rattle.wasm_syntax.specs.declared.instr.Instr.TheVariants as instr
-use Rattle.wasm_syntax.specs.declared.instr.Plain.TheVariants as plain
-use Rattle.wasm_syntax.specs.declared.flat.Flat.{Flat}
-use Rattle.wasm_syntax.specs.declared.flat.Flat.TheVariants as item
 use Rattle.wasm_syntax.specs.declared.kind.Opcode.{Opcode}
 use Rattle.wasm_syntax.specs.declared.kind.Opcode.TheVariants as op
 use Rattle.wasm_syntax.specs.declared.kind.Kind.{Kind}
 use Rattle.wasm_syntax.specs.declared.kind.Kind.TheVariants as kind
-use Rattle.wasm_syntax.specs.declared.module.FuncType.{FuncType}
-use Rattle.wasm_syntax.specs.declared.module.Limits.{Limits}
-use Rattle.wasm_syntax.specs.declared.module.GlobalType.{GlobalType}
-use Rattle.wasm_syntax.specs.declared.module.Global.{Global}
-use Rattle.wasm_syntax.specs.declared.module.Elem.{Elem}
-use Rattle.wasm_syntax.specs.declared.module.Segment.{Segment}
-use Rattle.wasm_syntax.specs.declared.module.Import.{Import}
-use Rattle.wasm_syntax.specs.declared.module.ImportKind.{ImportKind}
-use Rattle.wasm_syntax.specs.declared.module.ImportKind.TheVariants as import
-use Rattle.wasm_syntax.specs.declared.module.Export.{Export}
-use Rattle.wasm_syntax.specs.declared.module.ExportKind.{ExportKind}
-use Rattle.wasm_syntax.specs.declared.module.ExportKind.TheVariants as export
 use Rattle.wasm_syntax.specs.Opcodes.{kind_of}
-use Rattle.wasm_syntax.specs.Parts.{Part, own, may_turn, then_item}
 use Rattle.binary_grammar.specs.declared.fault.DecodeFault.{DecodeFault}
 use Rattle.binary_grammar.specs.declared.fault.DecodeFault.TheVariants.{Malformed, Limit}
 use Rattle.binary_grammar.specs.declared.fault.DecodeWord.TheVariants as word
 use Rattle.binary_grammar.specs.declared.fault.LimitWord.{LimitWord}
 use Rattle.binary_grammar.specs.declared.fault.LimitWord.TheVariants as limit
-use Rattle.binary_grammar.specs.declared.section.Body.{Body}
-use Rattle.binary_grammar.specs.declared.section.Section.{Section}
-use Rattle.binary_grammar.specs.declared.section.Section.TheVariants as section
-use Rattle.binary_grammar.specs.declared.section.Draft.{Draft}
-use Rattle.binary_grammar.specs.declared.section.Decoded.{Decoded}
-use Rattle.binary_grammar.specs.Bounds.{Bounds, copies}
-use Rattle.binary_grammar.specs.Reading.{◌>>=◌, Reader, place, number_at, byte_at, of_byte, run_at, text_at, region_at, ended}
+use Rattle.binary_grammar.specs.Reading.{◌>>=◌, Reader, place, number_at, of_byte, run_at, text_at, region_at, ended}
 use Rattle.binary_grammar.specs.TypeReading.{value_type_at, tag_at, flag_at, block_type_at}
-use Rattle.binary_grammar.specs.CodeReading.{word32_at, word64_at, is_last, own_instrs}
-use Rattle.binary_grammar.specs.SectionReading.{id_at, with_section, no_sections, whole_module, header_at}
+use Rattle.binary_grammar.specs.CodeReading.{word32_at, word64_at}
+use Rattle.binary_grammar.specs.SectionReading.{id_at, header_at}
 
 -- The kinds of items. A kind also has what decides whether an item of it is accepted: a limit, the last section's id, the
 -- count that is wanted, whether an `else` may come, whether no further block may be opened. `Here` has no bytes: it only

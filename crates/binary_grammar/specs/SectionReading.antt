@@ -1,15 +1,13 @@
 -- Reading sections and whole modules (Core Specification, 5.5).
-use Rattle.std.specs.Prelude.{◌≡◌, ℕ, zero, suc, ◌+◌, ◌-◌, nat_lt, nat_le, ◌==◌, not, ◌&&◌, if◌then◌else◌, Bool, List, [], ◌∷◌, ◌++◌, length, map, Option, Some, None, Result, Ok, Err}
-use Rattle.wasm_syntax.specs.declared.instr.Instr.{Instr}
+use Rattle.std.specs.Prelude.{ℕ, zero, suc, nat_lt, nat_le, ◌==◌, not, ◌&&◌, if◌then◌else◌, List, [], ◌∷◌, ◌++◌, length, map, Some, None, Result, Ok, Err}
 use Rattle.wasm_syntax.specs.declared.module.Global.{Global}
 use Rattle.wasm_syntax.specs.declared.module.Func.{Func}
 use Rattle.wasm_syntax.specs.declared.module.Elem.{Elem}
 use Rattle.wasm_syntax.specs.declared.module.Segment.{Segment}
-use Rattle.wasm_syntax.specs.declared.module.Custom.{Custom}
 use Rattle.wasm_syntax.specs.declared.module.Module.{Module}
 use Rattle.wasm_syntax.specs.declared.module.Marks.{Marks}
 use Rattle.binary_grammar.specs.declared.fault.DecodeFault.{DecodeFault}
-use Rattle.binary_grammar.specs.declared.fault.DecodeFault.TheVariants.{Malformed, Limit}
+use Rattle.binary_grammar.specs.declared.fault.DecodeFault.TheVariants.{Malformed}
 use Rattle.binary_grammar.specs.declared.fault.DecodeWord.TheVariants as word
 use Rattle.binary_grammar.specs.declared.fault.LimitWord.TheVariants as limit
 use Rattle.binary_grammar.specs.declared.section.Body.{Body}

@@ -1,5 +1,4 @@
-use Rattle.std.proofs.Common.{◌≡◌, ◌++◌, ◌∷◌, [], ap, ◌∙◌}
-use Rattle.binary_grammar.specs.Bounds.{copies}
+use Rattle.std.proofs.Common.{◌++◌, ◌∷◌, [], ap, ◌∙◌}
 use Rattle.wasm_binary.proofs.CodeLoop.{copies-push}
 use Rattle.wasm_binary.proofs.code.push_copies.Goals as goal
 

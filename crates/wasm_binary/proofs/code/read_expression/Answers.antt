@@ -1,9 +1,9 @@
-use Rattle.std.proofs.Common.{◌≡◌, ◌-◌, ◌+◌, suc, List, ◌∷◌, [], ◌++◌, ◌≤◌, length, ap, sym, ◌∙◌, refl, arith, true, false, Err, Ok, nat_lt}
+use Rattle.std.proofs.Common.{◌≡◌, ◌-◌, ◌+◌, suc, ◌∷◌, [], ◌++◌, length, sym, ◌∙◌, refl, arith, true, false, Ok, nat_lt}
 use Rattle.std.proofs.lemmas.Result.{err_from_is_err_and}
-use Rattle.wasm_syntax.specs.Parts.{own, flat_parts, then_item, may_turn}
-use Rattle.binary_grammar.specs.Reading.{Fails, place}
-use Rattle.binary_grammar.specs.CodeReading.{item_at, is_last, expression_at, rest_at, own_instrs}
-use Rattle.wasm_binary.proofs.CodeLoop.{with_places, goes_on, stops, fails, runs_out, starts, no_items}
+use Rattle.wasm_syntax.specs.Parts.{may_turn}
+use Rattle.binary_grammar.specs.Reading.{place}
+use Rattle.binary_grammar.specs.CodeReading.{item_at, is_last, expression_at}
+use Rattle.wasm_binary.proofs.CodeLoop.{goes_on, stops, fails, runs_out, starts, no_items}
 use Rattle.wasm_binary.proofs.code.read_expression.Goals as goal
 
 pub loop-init : goal.loop-init

@@ -3,7 +3,7 @@ use Rattle.std.proofs.lemmas.Result.{err_from_is_err_and}
 use Rattle.std.proofs.lemmas.List.{length-append}
 use Rattle.binary_grammar.specs.Bounds.{copies}
 use Rattle.binary_grammar.specs.CodeReading.{runs_at}
-use Rattle.wasm_binary.proofs.CodeLoop.{with_locals, goes_on_runs, fails_runs, runs_done, length-copies}
+use Rattle.wasm_binary.proofs.CodeLoop.{goes_on_runs, fails_runs, runs_done, length-copies}
 use Rattle.wasm_binary.proofs.code.read_runs.Goals as goal
 
 pub returns-in_err-number-clause-gives : goal.returns-in_err-number-clause-gives

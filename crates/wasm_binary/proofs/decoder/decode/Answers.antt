@@ -1,4 +1,4 @@
-use Rattle.std.proofs.Common.{◌≡◌, List, ℕ, Result, Ok, Err, subst}
+use Rattle.std.proofs.Common.{List, ℕ, Result, Ok, Err, subst}
 use Rattle.binary_grammar.specs.declared.fault.DecodeFault.{DecodeFault}
 use Rattle.binary_grammar.specs.declared.section.Decoded.{Decoded}
 use Rattle.std.specs.Prelude.{IfOk, IfErr}
@@ -7,7 +7,7 @@ use Rattle.binary_grammar.specs.Reading.{Gives}
 use Rattle.binary_grammar.specs.SectionReading.{module_at}
 use Rattle.binary_grammar.specs.ModuleGrammar.{Spells, InLimits}
 use Rattle.binary_grammar.specs.declared.fault.DecodeFault.TheVariants.{Malformed, Limit, OutOfMemory}
-use Rattle.binary_grammar.specs.Plans.{Fault, Refused}
+use Rattle.binary_grammar.specs.Plans.{Refused}
 use Rattle.binary_grammar.proofs.PlanModule.{stops_module}
 use Rattle.binary_grammar.proofs.ModuleLaws.{module_takes, module_again}
 use Rattle.wasm_binary.proofs.decoder.decode.Goals as goal
