@@ -1,0 +1,13 @@
+pub mod NumberLaws
+pub mod Exact
+pub mod TypeLaws
+pub mod ItemLaws
+pub mod Follow
+pub mod CodeLaws
+pub mod BodyLaws
+pub mod SectionLaws
+pub mod ModuleLaws
+pub mod UniqueLaws
+pub mod ReadingLaws
+pub mod PlanLaws
+pub mod PlanModule

@@ -1,0 +1,9 @@
+use Rattle.binary_grammar.specs.Bounds.{the_bounds}
+use Rattle.binary_grammar.proofs.ModuleLaws.{module_takes, module_again}
+use Rattle.binary_grammar.proofs.PlanModule.{reads_module}
+use Rattle.binary_grammar.proofs.laws.complete_readings.Goals as goal
+
+pub returns : goal.returns
+returns c = λ bytes r.
+    let e = reads_module the_bounds bytes r in
+    (λ h. module_takes the_bounds bytes r (e.1 h), λ h. e.0 (module_again the_bounds bytes r.module r.marks h.0 h.1))

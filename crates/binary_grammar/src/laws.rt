@@ -1,0 +1,32 @@
+ghost use Rattle.std.specs.Prelude.{◌≡◌, ◌↔◌, ◌≤◌, ℕ, List, length, Ok, Err};
+ghost use Rattle.wasm_syntax.specs.declared.module.Module.{Module};
+ghost use Rattle.wasm_syntax.specs.declared.module.Marks.{Marks};
+ghost use Rattle.binary_grammar.specs.declared.fault.DecodeFault.{DecodeFault};
+ghost use Rattle.binary_grammar.specs.declared.section.Decoded.{Decoded};
+ghost use Rattle.binary_grammar.specs.Bounds.{the_bounds};
+ghost use Rattle.binary_grammar.specs.SectionReading.{module_at};
+ghost use Rattle.binary_grammar.specs.ModuleGrammar.{Spells, InLimits};
+ghost use Rattle.binary_grammar.specs.Readings.{Item, Wanted, Given, Left, Plan, Want, Reads, accept};
+ghost use Rattle.binary_grammar.specs.Plans.{ReadsModule, Fault};
+
+/// Bytes spell at most one module, with one set of marks.
+pub fn one_module()
+    ensures { (bytes : List ℕ) (m n : Module) (j k : Marks) → Spells bytes m j → Spells bytes n k → (m ≡ n) × (j ≡ k) }
+{}
+
+/// A complete reading exists exactly where the bytes spell a module within the limits, and gives that module.
+pub fn complete_readings()
+    ensures { (bytes : List ℕ) (r : Decoded) → ReadsModule the_bounds bytes r ↔ (Spells bytes r.module r.marks × InLimits the_bounds r.module) }
+{}
+
+/// What the bytes are read as, item by item, is their complete reading, or their fault.
+pub fn readings()
+    ensures complete { (bytes : List ℕ) (r : Decoded) → (module_at the_bounds bytes ≡ Ok r) ↔ ReadsModule the_bounds bytes r }
+    ensures fault { (bytes : List ℕ) (f : DecodeFault) → (module_at the_bounds bytes ≡ Err f) ↔ Fault the_bounds bytes f }
+{}
+
+/// No reading goes past an item that is not accepted.
+pub fn longest_reading()
+    ensures { (p q : Plan Decoded) (left after stop : Left) (items others : List Item) (k : Wanted) (more : (Given k → Plan Decoded)) (f : DecodeFault) →
+        Reads p left items q after → Reads p left others (Want k more) stop → accept k stop ≡ Err f → length items ≤ length others }
+{}

@@ -1,0 +1,3 @@
+pub mod EntryLoop
+pub mod CodeLoop
+pub mod SectionLoop

@@ -1,0 +1,272 @@
+ghost use Rattle.std.specs.Prelude.{◌≡◌, ◌≤◌, ◌-◌, ◌<◌, ℕ, List, [], length, IfOk, OnOk, IfErr, Ok, Err};
+ghost use Rattle.wasm_syntax.specs.declared.module.Module.{Module};
+ghost use Rattle.wasm_syntax.specs.declared.module.Marks.{Marks};
+ghost use Rattle.binary_grammar.specs.declared.fault.DecodeFault.{DecodeFault};
+ghost use Rattle.binary_grammar.specs.ModuleGrammar.{Spells, InLimits};
+ghost use Rattle.binary_grammar.specs.Plans.{Fault, Refused};
+ghost use Rattle.binary_grammar.specs.Bounds.{the_bounds};
+ghost use Rattle.binary_grammar.specs.Reading.{Gives};
+ghost use Rattle.binary_grammar.specs.SectionReading.{after_of, with_section, no_sections, sections_at, funcs_of, places_of, finished_at, header, magic_at, header_at, module_at};
+
+use crate::read::{malformed, place};
+use crate::sections::read_section;
+use binary_grammar::{Body, DecodeFault, DecodeWord, Decoded, Draft, Section};
+use std::alloc::Global;
+use wasm_syntax::{Custom, Func, Marks, Module};
+use wasm_values::{List, OutOfMemory};
+
+const HEADER: [u8; 8] = [0x00, 0x61, 0x73, 0x6d, 0x01, 0x00, 0x00, 0x00];
+
+fn no_module(alloc: Global) -> Module
+    ensures { result ≡ no_sections.«module» }
+{
+    Module {
+        types: List::new(alloc),
+        imports: List::new(alloc),
+        funcs: List::new(alloc),
+        tables: List::new(alloc),
+        memories: List::new(alloc),
+        globals: List::new(alloc),
+        exports: List::new(alloc),
+        start: None,
+        elems: List::new(alloc),
+        segments: List::new(alloc),
+        customs: List::new(alloc),
+    }
+}
+
+fn no_marks(alloc: Global) -> Marks
+    ensures { result ≡ no_sections.marks }
+{
+    Marks {
+        len: 0,
+        types: List::new(alloc),
+        imports: List::new(alloc),
+        funcs: List::new(alloc),
+        tables: List::new(alloc),
+        memories: List::new(alloc),
+        globals: List::new(alloc),
+        exports: List::new(alloc),
+        start: 0,
+        elems: List::new(alloc),
+        segments: List::new(alloc),
+        code: List::new(alloc),
+    }
+}
+
+fn new_draft(alloc: Global) -> Draft
+    ensures { result ≡ no_sections }
+{
+    Draft {
+        module: no_module(alloc),
+        marks: no_marks(alloc),
+        declared: List::new(alloc),
+        bodies: List::new(alloc),
+        last: 0,
+        after: 0,
+    }
+}
+
+fn after_of(old: u8, id: u8, entries: usize) -> u8
+    ensures { result ≡ after_of old id entries }
+{
+    if entries == 0 { old } else { id }
+}
+
+fn add_section(draft: &mut Draft, section: Section) -> Result<(), OutOfMemory>
+    ensures { OnOk result (draft.new ≡ with_section draft.old section) }
+{
+    match section {
+        Section::Custom(name, bytes) => {
+            let after = draft.after;
+            draft.module.customs.push(Custom { after, name, bytes })?;
+        }
+        Section::Types(types, places) => {
+            draft.last = 1;
+            draft.after = after_of(draft.after, 1, types.len());
+            draft.module.types = types;
+            draft.marks.types = places;
+        }
+        Section::Imports(imports, places) => {
+            draft.last = 2;
+            draft.after = after_of(draft.after, 2, imports.len());
+            draft.module.imports = imports;
+            draft.marks.imports = places;
+        }
+        Section::Funcs(types, places) => {
+            draft.last = 3;
+            draft.after = after_of(draft.after, 3, types.len());
+            draft.declared = types;
+            draft.marks.funcs = places;
+        }
+        Section::Tables(tables, places) => {
+            draft.last = 4;
+            draft.after = after_of(draft.after, 4, tables.len());
+            draft.module.tables = tables;
+            draft.marks.tables = places;
+        }
+        Section::Memories(memories, places) => {
+            draft.last = 5;
+            draft.after = after_of(draft.after, 5, memories.len());
+            draft.module.memories = memories;
+            draft.marks.memories = places;
+        }
+        Section::Globals(globals, places) => {
+            draft.last = 6;
+            draft.after = after_of(draft.after, 6, globals.len());
+            draft.module.globals = globals;
+            draft.marks.globals = places;
+        }
+        Section::Exports(exports, places) => {
+            draft.last = 7;
+            draft.after = after_of(draft.after, 7, exports.len());
+            draft.module.exports = exports;
+            draft.marks.exports = places;
+        }
+        Section::Start(index, place) => {
+            draft.last = 8;
+            draft.after = 8;
+            draft.module.start = Some(index);
+            draft.marks.start = place;
+        }
+        Section::Elems(elems, places) => {
+            draft.last = 9;
+            draft.after = after_of(draft.after, 9, elems.len());
+            draft.module.elems = elems;
+            draft.marks.elems = places;
+        }
+        Section::Bodies(bodies) => {
+            draft.last = 10;
+            draft.after = after_of(draft.after, 10, bodies.len());
+            draft.bodies = bodies;
+        }
+        Section::Segments(segments, places) => {
+            draft.last = 11;
+            draft.after = after_of(draft.after, 11, segments.len());
+            draft.module.segments = segments;
+            draft.marks.segments = places;
+        }
+    }
+    Ok(())
+}
+
+fn read_sections(alloc: Global, bytes: &[u8], end: usize) -> Result<Draft, DecodeFault>
+    ensures { Gives (λ d. d) result (sections_at the_bounds (length bytes.now) no_sections end bytes.now) }
+{
+    let mut draft = new_draft(alloc);
+    let mut rest = bytes;
+    for _ in 0..bytes.len() {
+        if rest.is_empty() {
+            break;
+        }
+        let (section, after) = read_section(alloc, draft.last, draft.declared.len(), rest, end)?;
+        add_section(&mut draft, section)?;
+        rest = after;
+    }
+    Ok(draft)
+}
+
+/// The functions of these types and bodies, and the places of their instructions.
+fn join_funcs(
+    alloc: Global,
+    declared: &[u32],
+    bodies: List<Body>,
+) -> Result<(List<Func>, List<List<usize>>), OutOfMemory>
+    requires { length declared.now ≡ length bodies }
+    ensures funcs { IfOk result (λ x. x.0 ≡ funcs_of declared.now bodies) }
+    ensures places { IfOk result (λ x. x.1 ≡ places_of bodies) }
+{
+    let mut funcs = List::new(alloc);
+    let mut code = List::new(alloc);
+    for body in bodies.into_vec() {
+        let Body {
+            locals,
+            code: body,
+            places,
+        } = body;
+        let ty = declared[funcs.len()];
+        funcs.push(Func { ty, locals, body })?;
+        code.push(places)?;
+    }
+    Ok((funcs, code))
+}
+
+/// The module behind its last section, of bytes of this length.
+#[tactic(auto, unfolding(binary_grammar::specs::SectionReading::finished_at, binary_grammar::specs::Reading::then_at, binary_grammar::specs::Reading::done_at))]
+fn finish(alloc: Global, draft: Draft, len: usize) -> Result<Decoded, DecodeFault>
+    ensures { Gives (λ d. d) result (finished_at len draft) }
+{
+    let Draft {
+        mut module,
+        mut marks,
+        declared,
+        bodies,
+        last: _,
+        after: _,
+    } = draft;
+    if bodies.len() != declared.len() {
+        return Err(malformed(len, DecodeWord::Count));
+    }
+    let (funcs, code) = join_funcs(alloc, declared.as_slice(), bodies)?;
+    module.funcs = funcs;
+    marks.len = len;
+    marks.code = code;
+    Ok(Decoded { module, marks })
+}
+
+#[tactic(auto, unfolding(binary_grammar::specs::SectionReading::magic_at, binary_grammar::specs::Reading::then_at, binary_grammar::specs::Reading::done_at))]
+fn read_magic<'a>(magic: &[u8], bytes: &'a [u8], end: usize) -> Result<&'a [u8], DecodeFault>
+    ensures { Gives (λ x. x.now) result (magic_at magic.now end bytes.now) }
+{
+    match magic {
+        [] => Ok(bytes),
+        [wanted, more @ ..] => match bytes {
+            [] => Err(malformed(end, DecodeWord::End)),
+            [byte, rest @ ..] => {
+                if byte == wanted {
+                    read_magic(more, rest, end)
+                } else {
+                    Err(malformed(place(bytes, end), DecodeWord::Magic))
+                }
+            }
+        },
+    }
+}
+
+#[tactic(auto, unfolding(binary_grammar::specs::SectionReading::header_at, binary_grammar::specs::Reading::then_at, binary_grammar::specs::Reading::done_at))]
+fn read_header(bytes: &[u8], end: usize) -> Result<&[u8], DecodeFault>
+    ensures { Gives (λ x. x.now) result (header_at end bytes.now) }
+{
+    if bytes.len() < 8 {
+        return Err(malformed(end, DecodeWord::End));
+    }
+    read_magic(&HEADER, bytes, end)
+}
+
+#[tactic(auto, unfolding(binary_grammar::specs::SectionReading::module_at, binary_grammar::specs::Reading::then_at, binary_grammar::specs::Reading::done_at))]
+fn read_module(alloc: Global, bytes: &[u8]) -> Result<Decoded, DecodeFault>
+    ensures { Gives (λ d. d) result (module_at the_bounds bytes.now) }
+{
+    let end = bytes.len();
+    let rest = read_header(bytes, end)?;
+    let draft = read_sections(alloc, rest, end)?;
+    finish(alloc, draft, end)
+}
+
+/// The module that the bytes spell within the limits, and where its entries stand.
+///
+/// Takes time and memory in proportion to the bytes and the locals that they declare.
+pub fn decode(alloc: Global, bytes: &[u8]) -> Result<Decoded, DecodeFault>
+    // What is decoded is spelled so, within the limits.
+    ensures found { IfOk result (λ d. Spells bytes.now d.module d.marks × InLimits the_bounds d.module) }
+    // What is spelled so, within the limits, is decoded, unless memory runs out.
+    ensures spelled { (m : Module) (k : Marks) → Spells bytes.now m k → InLimits the_bounds m → Gives (λ d. d) result (Ok (record { «module» = m; marks = k })) }
+    // A refusal is the fault of the item that is wanted next behind the longest reading, or want of memory.
+    ensures fault { IfErr result (Refused the_bounds bytes.now) }
+    // Where the bytes have a fault, it is answered, unless memory runs out.
+    ensures refused { (f : DecodeFault) → Fault the_bounds bytes.now f → Gives (λ d. d) result (Err f) }
+    // The same as a function of the bytes.
+    ensures exact { Gives (λ d. d) result (module_at the_bounds bytes.now) }
+{
+    read_module(alloc, bytes)
+}

@@ -1,0 +1,272 @@
+ghost use Rattle.std.specs.Prelude.{◌≡◌, ◌≤◌, ◌-◌, ◌<◌, ℕ, List, length, IfOk, IsTrue};
+ghost use Rattle.wasm_syntax.specs.FlatForm.{is_simple};
+ghost use Rattle.wasm_syntax.specs.Opcodes.{kind_of};
+ghost use Rattle.binary_grammar.specs.Reading.{Gives, place};
+ghost use Rattle.binary_grammar.specs.CodeReading.{word32_at, word64_at, index_at, indexed_at, simple_at, head_at, op_at, kind_at, item_at, FitsIn};
+
+use crate::entries::read_list;
+use crate::leb::{take_s32, take_s64};
+use crate::read::{malformed, number_fault, place, read_byte, read_number};
+use crate::types::{read_block_type, read_tag};
+use binary_grammar::{DecodeFault, DecodeWord, LimitWord};
+use std::alloc::Global;
+use wasm_syntax::{Flat, Instr, Kind, MAX_ITEMS, Opcode, Plain, opcode};
+use wasm_values::{Val, ValType};
+
+#[tactic(auto, unfolding(binary_grammar::specs::CodeReading::word32_at, binary_grammar::specs::Reading::then_at, binary_grammar::specs::Reading::done_at, binary_grammar::specs::Reading::of_byte, binary_grammar::specs::Reading::tagged_at))]
+fn read_word32(bytes: &[u8], end: usize) -> Result<(u32, &[u8]), DecodeFault>
+    ensures gives { Gives (λ x. (x.0, x.1.now)) result (word32_at end bytes.now) }
+    ensures shorter { IfOk result (λ x. length x.1.now ≤ length bytes.now) }
+{
+    match take_s32(bytes) {
+        Ok((value, rest)) => Ok((value.cast_unsigned(), rest)),
+        Err(fault) => Err(number_fault(fault, place(bytes, end), end)),
+    }
+}
+
+#[tactic(auto, unfolding(binary_grammar::specs::CodeReading::word64_at, binary_grammar::specs::Reading::then_at, binary_grammar::specs::Reading::done_at, binary_grammar::specs::Reading::of_byte, binary_grammar::specs::Reading::tagged_at))]
+fn read_word64(bytes: &[u8], end: usize) -> Result<(u64, &[u8]), DecodeFault>
+    ensures gives { Gives (λ x. (x.0, x.1.now)) result (word64_at end bytes.now) }
+    ensures shorter { IfOk result (λ x. length x.1.now ≤ length bytes.now) }
+{
+    match take_s64(bytes) {
+        Ok((value, rest)) => Ok((value.cast_unsigned(), rest)),
+        Err(fault) => Err(number_fault(fault, place(bytes, end), end)),
+    }
+}
+
+#[tactic(auto, unfolding(binary_grammar::specs::CodeReading::index_at, binary_grammar::specs::Reading::then_at, binary_grammar::specs::Reading::done_at, binary_grammar::specs::Reading::of_byte, binary_grammar::specs::Reading::tagged_at))]
+fn read_index(
+    at: usize,
+    op: Opcode,
+    bytes: &[u8],
+    end: usize,
+) -> Result<(Instr, &[u8]), DecodeFault>
+    ensures gives { Gives (λ x. (x.0, x.1.now)) result (index_at at op end bytes.now) }
+    ensures shorter { IfOk result (λ x. length x.1.now ≤ length bytes.now) }
+    ensures simple { IfOk result (λ x. IsTrue (is_simple x.0)) }
+{
+    match op {
+        Opcode::Br => {
+            let (index, rest) = read_number(bytes, end)?;
+            Ok((Instr::Br(index), rest))
+        }
+        Opcode::BrIf => {
+            let (index, rest) = read_number(bytes, end)?;
+            Ok((Instr::BrIf(index), rest))
+        }
+        Opcode::Call => {
+            let (index, rest) = read_number(bytes, end)?;
+            Ok((Instr::Call(index), rest))
+        }
+        Opcode::LocalGet => {
+            let (index, rest) = read_number(bytes, end)?;
+            Ok((Instr::LocalGet(index), rest))
+        }
+        Opcode::LocalSet => {
+            let (index, rest) = read_number(bytes, end)?;
+            Ok((Instr::LocalSet(index), rest))
+        }
+        Opcode::LocalTee => {
+            let (index, rest) = read_number(bytes, end)?;
+            Ok((Instr::LocalTee(index), rest))
+        }
+        Opcode::GlobalGet => {
+            let (index, rest) = read_number(bytes, end)?;
+            Ok((Instr::GlobalGet(index), rest))
+        }
+        Opcode::GlobalSet => {
+            let (index, rest) = read_number(bytes, end)?;
+            Ok((Instr::GlobalSet(index), rest))
+        }
+        _ => Err(malformed(at, DecodeWord::Byte)),
+    }
+}
+
+#[tactic(auto, unfolding(binary_grammar::specs::CodeReading::indexed_at, binary_grammar::specs::Reading::then_at, binary_grammar::specs::Reading::done_at, binary_grammar::specs::Reading::of_byte, binary_grammar::specs::Reading::tagged_at))]
+fn read_indexed(
+    alloc: Global,
+    at: usize,
+    op: Opcode,
+    bytes: &[u8],
+    end: usize,
+) -> Result<(Instr, &[u8]), DecodeFault>
+    requires { length bytes.now ≤ MAX_ITEMS }
+    ensures gives { Gives (λ x. (x.0, x.1.now)) result (indexed_at at op end bytes.now) }
+    ensures shorter { IfOk result (λ x. length x.1.now ≤ length bytes.now) }
+    ensures simple { IfOk result (λ x. IsTrue (is_simple x.0)) }
+{
+    match op {
+        Opcode::BrTable => {
+            let (labels, rest) = read_list(alloc, bytes, end)?;
+            let (last, rest) = read_number(rest, end)?;
+            Ok((Instr::BrTable(labels, last), rest))
+        }
+        Opcode::CallIndirect => {
+            let (ty, rest) = read_number(bytes, end)?;
+            let (_, rest) = read_tag(0, rest, end)?;
+            Ok((Instr::CallIndirect(ty), rest))
+        }
+        Opcode::Load(op) => {
+            let (align, rest) = read_number(bytes, end)?;
+            let (offset, rest) = read_number(rest, end)?;
+            Ok((Instr::Load(op, align, offset), rest))
+        }
+        Opcode::Store(op) => {
+            let (align, rest) = read_number(bytes, end)?;
+            let (offset, rest) = read_number(rest, end)?;
+            Ok((Instr::Store(op, align, offset), rest))
+        }
+        _ => read_index(at, op, bytes, end),
+    }
+}
+
+#[tactic(auto, unfolding(binary_grammar::specs::CodeReading::simple_at, binary_grammar::specs::Reading::then_at, binary_grammar::specs::Reading::done_at, binary_grammar::specs::Reading::of_byte, binary_grammar::specs::Reading::tagged_at))]
+fn read_simple(
+    alloc: Global,
+    at: usize,
+    op: Opcode,
+    bytes: &[u8],
+    end: usize,
+) -> Result<(Instr, &[u8]), DecodeFault>
+    requires { length bytes.now ≤ MAX_ITEMS }
+    ensures gives { Gives (λ x. (x.0, x.1.now)) result (simple_at at op end bytes.now) }
+    ensures shorter { IfOk result (λ x. length x.1.now ≤ length bytes.now) }
+    ensures simple { IfOk result (λ x. IsTrue (is_simple x.0)) }
+{
+    match op {
+        Opcode::Unreachable => Ok((Instr::Plain(Plain::Unreachable), bytes)),
+        Opcode::Nop => Ok((Instr::Plain(Plain::Nop), bytes)),
+        Opcode::Return => Ok((Instr::Plain(Plain::Return), bytes)),
+        Opcode::Drop => Ok((Instr::Plain(Plain::Drop), bytes)),
+        Opcode::Select => Ok((Instr::Plain(Plain::Select), bytes)),
+        Opcode::Num(op) => Ok((Instr::Num(op), bytes)),
+        Opcode::MemorySize => {
+            let (_, rest) = read_tag(0, bytes, end)?;
+            Ok((Instr::Plain(Plain::MemorySize), rest))
+        }
+        Opcode::MemoryGrow => {
+            let (_, rest) = read_tag(0, bytes, end)?;
+            Ok((Instr::Plain(Plain::MemoryGrow), rest))
+        }
+        Opcode::I32Const => {
+            let (value, rest) = read_word32(bytes, end)?;
+            Ok((Instr::Const(Val::I32(value)), rest))
+        }
+        Opcode::I64Const => {
+            let (value, rest) = read_word64(bytes, end)?;
+            Ok((Instr::Const(Val::I64(value)), rest))
+        }
+        _ => read_indexed(alloc, at, op, bytes, end),
+    }
+}
+
+#[tactic(auto, unfolding(binary_grammar::specs::CodeReading::head_at, binary_grammar::specs::Reading::then_at, binary_grammar::specs::Reading::done_at, binary_grammar::specs::Reading::of_byte, binary_grammar::specs::Reading::tagged_at))]
+fn read_head(
+    full: bool,
+    at: usize,
+    bytes: &[u8],
+    end: usize,
+) -> Result<(Option<ValType>, &[u8]), DecodeFault>
+    ensures gives { Gives (λ x. (x.0, x.1.now)) result (head_at full at end bytes.now) }
+    ensures shorter { IfOk result (λ x. length x.1.now ≤ length bytes.now) }
+{
+    if full {
+        return Err(DecodeFault::Limit {
+            at,
+            word: LimitWord::Nesting,
+        });
+    }
+    read_block_type(bytes, end)
+}
+
+/// The rest of an item behind its opcode. `turn` says whether an `else` may come, `full` whether no block may.
+#[tactic(auto, unfolding(binary_grammar::specs::CodeReading::op_at, binary_grammar::specs::Reading::then_at, binary_grammar::specs::Reading::done_at, binary_grammar::specs::Reading::of_byte, binary_grammar::specs::Reading::tagged_at))]
+fn read_op(
+    alloc: Global,
+    turn: bool,
+    full: bool,
+    at: usize,
+    op: Opcode,
+    bytes: &[u8],
+    end: usize,
+) -> Result<(Flat, &[u8]), DecodeFault>
+    requires { length bytes.now ≤ MAX_ITEMS }
+    ensures gives { Gives (λ x. (x.0, x.1.now)) result (op_at turn full at op end bytes.now) }
+    ensures shorter { IfOk result (λ x. length x.1.now ≤ length bytes.now) }
+    ensures fits { IfOk result (λ x. FitsIn turn x.0) }
+{
+    match op {
+        Opcode::Block => {
+            let (ty, rest) = read_head(full, at, bytes, end)?;
+            Ok((Flat::Block(ty), rest))
+        }
+        Opcode::Loop => {
+            let (ty, rest) = read_head(full, at, bytes, end)?;
+            Ok((Flat::Loop(ty), rest))
+        }
+        Opcode::If => {
+            let (ty, rest) = read_head(full, at, bytes, end)?;
+            Ok((Flat::If(ty), rest))
+        }
+        Opcode::Else => {
+            if turn {
+                Ok((Flat::Else, bytes))
+            } else {
+                Err(malformed(at, DecodeWord::Byte))
+            }
+        }
+        Opcode::End => Ok((Flat::End, bytes)),
+        _ => {
+            let (instr, rest) = read_simple(alloc, at, op, bytes, end)?;
+            Ok((Flat::One(instr), rest))
+        }
+    }
+}
+
+#[tactic(auto, unfolding(binary_grammar::specs::CodeReading::kind_at, binary_grammar::specs::Reading::then_at, binary_grammar::specs::Reading::done_at, binary_grammar::specs::Reading::of_byte, binary_grammar::specs::Reading::tagged_at))]
+fn read_kind(
+    alloc: Global,
+    turn: bool,
+    full: bool,
+    at: usize,
+    kind: Kind,
+    bytes: &[u8],
+    end: usize,
+) -> Result<(Flat, &[u8]), DecodeFault>
+    requires { length bytes.now ≤ MAX_ITEMS }
+    ensures gives { Gives (λ x. (x.0, x.1.now)) result (kind_at turn full at kind end bytes.now) }
+    ensures shorter { IfOk result (λ x. length x.1.now ≤ length bytes.now) }
+    ensures fits { IfOk result (λ x. FitsIn turn x.0) }
+{
+    match kind {
+        Kind::Op(op) => read_op(alloc, turn, full, at, op, bytes, end),
+        Kind::Float => Err(malformed(at, DecodeWord::Float)),
+        Kind::Unused => Err(malformed(at, DecodeWord::Byte)),
+    }
+}
+
+#[tactic(auto, unfolding(binary_grammar::specs::CodeReading::item_at, binary_grammar::specs::Reading::then_at, binary_grammar::specs::Reading::done_at, binary_grammar::specs::Reading::of_byte, binary_grammar::specs::Reading::tagged_at))]
+pub(crate) fn read_item(
+    alloc: Global,
+    turn: bool,
+    full: bool,
+    bytes: &[u8],
+    end: usize,
+) -> Result<(Flat, &[u8]), DecodeFault>
+    requires { length bytes.now ≤ MAX_ITEMS }
+    ensures gives { Gives (λ x. (x.0, x.1.now)) result (item_at turn full end bytes.now) }
+    ensures shorter { IfOk result (λ x. length x.1.now ≤ length bytes.now) }
+    ensures fits { IfOk result (λ x. FitsIn turn x.0) }
+{
+    let (byte, rest) = read_byte(bytes, end)?;
+    read_kind(
+        alloc,
+        turn,
+        full,
+        place(bytes, end),
+        opcode(byte),
+        rest,
+        end,
+    )
+}

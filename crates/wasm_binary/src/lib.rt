@@ -1,0 +1,17 @@
+//! Reads modules in the binary format.
+#![tactic(auto)]
+
+mod code;
+mod decoder;
+mod entries;
+mod instrs;
+mod leb;
+mod read;
+mod sections;
+#[cfg(test)]
+mod tests;
+mod types;
+
+pub use binary_grammar::{DecodeFault, DecodeWord, Decoded, LebFault, LimitWord};
+pub use decoder::decode;
+pub use leb::{read_s32, read_s64, read_u32};
