@@ -16,6 +16,7 @@ use Rattle.wasm_syntax.specs.declared.module.FuncType.{FuncType}
 use Rattle.wasm_syntax.specs.declared.module.GlobalType.{GlobalType}
 use Rattle.wasm_syntax.specs.declared.module.Limits.{Limits}
 use Rattle.wasm_syntax.specs.declared.module.Import.{Import}
+use Rattle.wasm_syntax.specs.declared.module.ImportKind.{ImportKind}
 use Rattle.wasm_syntax.specs.declared.module.ImportKind.TheVariants as import
 use Rattle.wasm_syntax.specs.declared.module.Export.{Export}
 use Rattle.wasm_syntax.specs.declared.module.ExportKind.{ExportKind}
@@ -72,23 +73,29 @@ has_type (Some s) t = is_same_type s t
 abbrev pub type_fault : FuncType → Option ValidWord
 type_fault ty = first_failing (condition (nat_le (length ty.results) 1) word.WrongType ∷ [])
 
--- The n-th table, imports counted: `count` at the second; `limits` where the minimum is over the maximum.
-abbrev pub table_fault : ℕ → Limits → Option ValidWord
-table_fault n l = first_failing (condition (nat_eq n 0) word.Count ∷ condition (is_at_most l.min l.max) word.Limits ∷ [])
+-- A table: `count` where it isn't the first, imports counted; `limits` where the minimum is over the maximum.
+abbrev pub table_fault : (is_first : Bool) → Limits → Option ValidWord
+table_fault is_first l = first_failing (condition is_first word.Count ∷ condition (is_at_most l.min l.max) word.Limits ∷ [])
 
--- The n-th memory likewise: `limits` also where it passes 65,536 pages.
-abbrev pub memory_fault : ℕ → Limits → Option ValidWord
-memory_fault n l = first_failing (condition (nat_eq n 0) word.Count ∷ condition (are_pages l) word.Limits ∷ [])
+-- A memory likewise: `limits` also where it passes 65,536 pages.
+abbrev pub memory_fault : (is_first : Bool) → Limits → Option ValidWord
+memory_fault is_first l = first_failing (condition is_first word.Count ∷ condition (are_pages l) word.Limits ∷ [])
 
--- The n-th import: `index` for an unknown type, and a table or memory as above, after those of the imports before.
+-- An import, of so many types: `index` for an unknown type, and a table or memory as above.
+abbrev pub import_row : (count : ℕ) → (is_first_table is_first_memory : Bool) → ImportKind → Option ValidWord
+import_row count is_first_table is_first_memory (import.Func t) = first_failing (condition (nat_lt t count) word.Index ∷ [])
+import_row count is_first_table is_first_memory (import.Table l) = table_fault is_first_table l
+import_row count is_first_table is_first_memory (import.Memory l) = memory_fault is_first_memory l
+import_row count is_first_table is_first_memory (import.Global g) = None
+
+-- The n-th import, after those before it.
 abbrev pub import_fault : Module → ℕ → Import → Option ValidWord
 import_fault m n i =
-    elim i.kind [
-      | import.Func t ↦ first_failing (condition (nat_lt t (length m.types)) word.Index ∷ [])
-      | import.Table l ↦ table_fault (length (filter_map (λ (j : Import). table_import j.kind) (take n m.imports))) l
-      | import.Memory l ↦ memory_fault (length (filter_map (λ (j : Import). memory_import j.kind) (take n m.imports))) l
-      | import.Global g ↦ None
-    ]
+    let before = take n m.imports in
+    import_row (length m.types)
+      (nat_eq (length (filter_map (λ (j : Import). table_import j.kind) before)) 0)
+      (nat_eq (length (filter_map (λ (j : Import). memory_import j.kind) before)) 0)
+      i.kind
 
 -- A function: `index` for an unknown type.
 abbrev pub func_fault : Module → Func → Option ValidWord
@@ -250,11 +257,11 @@ StartFault m (Some f) place at w = (start_fault m f ≡ Some w) × (at ≡ place
 
 -- The tables that are imported come first.
 abbrev pub module_table_fault : Module → ℕ → Limits → Option ValidWord
-module_table_fault m n l = table_fault (length (filter_map (λ (j : Import). table_import j.kind) m.imports) + n) l
+module_table_fault m n l = table_fault (nat_eq (length (filter_map (λ (j : Import). table_import j.kind) m.imports) + n) 0) l
 
 -- The memories that are imported come first.
 abbrev pub module_memory_fault : Module → ℕ → Limits → Option ValidWord
-module_memory_fault m n l = memory_fault (length (filter_map (λ (j : Import). memory_import j.kind) m.imports) + n) l
+module_memory_fault m n l = memory_fault (nat_eq (length (filter_map (λ (j : Import). memory_import j.kind) m.imports) + n) 0) l
 
 -- The first fault of a module with these marks: its place and word. Types, imports, functions, tables, memories, globals,
 -- exports, the start function, element segments, bodies and data segments are looked at in this order, which is that of

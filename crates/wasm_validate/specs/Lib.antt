@@ -2,3 +2,4 @@ pub mod Typing
 pub mod Open
 pub mod Valid
 pub mod Faults
+pub mod Answers

@@ -2,5 +2,8 @@
 #![tactic(auto)]
 
 mod fault;
+mod rows;
+mod scope;
+mod sections;
 
 pub use fault::{ValidFault, ValidWord};
