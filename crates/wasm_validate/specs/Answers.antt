@@ -1,5 +1,6 @@
 -- Words for what the parts of the validator answer.
-use Rattle.std.specs.Prelude.{◌≡◌, ℕ, ◌≤◌, length, List, Result, Ok, Err}
+use denote.Ref.{Bor}
+use Rattle.std.specs.Prelude.{◌≡◌, ℕ, length, map, List, Result, Ok, Err}
 use Rattle.wasm_syntax.specs.declared.module.Module.{Module}
 use Rattle.wasm_syntax.specs.declared.module.GlobalType.{GlobalType}
 use Rattle.wasm_validate.specs.declared.fault.ValidWord.{ValidWord}
@@ -21,3 +22,7 @@ pub record IsScopeOf (m : Module) (s : Scope) : Type 0 where
   pub memories : s.memories ≡ length (memories_of m)
   pub imported : s.imported.items ≡ imported_globals_of m
   pub globals : s.globals.items ≡ globals_of m
+
+-- The texts that are lent.
+abbrev pub texts_of : List (Bor (List ℕ)) → List (List ℕ)
+texts_of = map (λ (text : Bor (List ℕ)). text.now)

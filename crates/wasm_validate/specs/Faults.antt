@@ -1,8 +1,9 @@
 -- The first fault of a module that isn't valid: sections in the order of their ids (Core Specification, section 5.5.2),
 -- entries and instructions in the order of the file, and of an entry or instruction the first of its conditions that fails.
-use Rattle.std.specs.Prelude.{◌≡◌, ℕ, ◌+◌, ◌<◌, ◌^◌, ◌⊎◌, Bool, true, false, ◌&&◌, not, nat_eq, nat_lt, nat_le, List, [], ◌∷◌, length, take, slice_get, is_some, Option, Some, None, IfSome, All, if◌then◌else◌}
+use Rattle.std.specs.Prelude.{◌≡◌, ℕ, ◌+◌, ◌<◌, ◌^◌, ◌⊎◌, Bool, true, false, ◌&&◌, not, nat_eq, nat_lt, nat_le, List, [], ◌∷◌, length, map, take, slice_get, is_some, Option, Some, None, IfSome, All, if◌then◌else◌}
 use Rattle.std.specs.List.{filter_map, list_any, list_all}
 use Rattle.std.specs.Option.{unwrap_or}
+use Rattle.std.specs.Str.{bytes_eq}
 use Rattle.std.specs.Cmp.Lexicographic.{pointwise}
 use Rattle.wasm_values.specs.declared.number.ValType.{ValType}
 use Rattle.wasm_values.specs.declared.number.ValType.TheVariants.{I32, I64}
@@ -113,12 +114,16 @@ names_one m (export.Table t) = nat_lt t (length (tables_of m))
 names_one m (export.Memory k) = nat_lt k (length (memories_of m))
 names_one m (export.Global g) = nat_lt g (length (globals_of m))
 
--- The n-th export: `index` where what it names doesn't exist; `export` for a name that an export before it has.
-abbrev pub export_fault : Module → ℕ → Export → Option ValidWord
-export_fault m n e =
+-- An export after those of these names: `index` where what it names doesn't exist; `export` for a name used before.
+abbrev pub export_row : Module → List (List ℕ) → Export → Option ValidWord
+export_row m names e =
     first_failing (
       condition (names_one m e.kind) word.Index ∷
-      condition (not (list_any (λ (o : Export). pointwise nat_eq o.name e.name) (take n m.exports))) word.Export ∷ [])
+      condition (not (list_any (bytes_eq e.name) names)) word.Export ∷ [])
+
+-- The n-th export, after those before it.
+abbrev pub export_fault : Module → ℕ → Export → Option ValidWord
+export_fault m n e = export_row m (map (λ (o : Export). o.name) (take n m.exports)) e
 
 abbrev pub is_empty_type : Option FuncType → Bool
 is_empty_type None = false

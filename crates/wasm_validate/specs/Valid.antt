@@ -1,7 +1,7 @@
 -- Which modules are valid (Core Specification, section 3.4), part by part.
 use Rattle.std.specs.Prelude.{◌≡◌, ℕ, ◌+◌, ◌<◌, ◌≤◌, ◌^◌, if◌then◌else◌, List, [], ◌∷◌, ◌++◌, length, map, reverse, slice_get, Option, Some, None, IfSome, All, nat_eq}
 use Rattle.std.specs.List.{filter_map, IsDistinct}
-use Rattle.std.specs.Cmp.Lexicographic.{pointwise}
+use Rattle.std.specs.Str.{bytes_eq}
 use Rattle.wasm_values.specs.declared.number.Val.{Val}
 use Rattle.wasm_values.specs.declared.number.Val.TheVariants as val
 use Rattle.wasm_values.specs.declared.number.ValType.{ValType}
@@ -239,7 +239,7 @@ pub record Valid (m : Module) : Type 0 where
   pub one_memory : length (memories_of m) ≤ 1
   pub globals : All (GlobalValid m) m.globals
   pub exports : All (λ (e : Export). ExportValid m e.kind) m.exports
-  pub names : IsDistinct (pointwise nat_eq) (map (λ (e : Export). e.name) m.exports)
+  pub names : IsDistinct bytes_eq (map (λ (e : Export). e.name) m.exports)
   pub start : IfSome m.start (StartValid m)
   pub elems : All (ElemValid m) m.elems
   pub bodies : All (FuncValid m) m.funcs

@@ -1,16 +1,19 @@
 // The sections but that of bodies, each entry in the order of the file.
 
-ghost use Rattle.std.specs.Prelude.{◌≡◌, ◌+◌, length, IfSome, None};
-ghost use Rattle.std.specs.List.{filter_map};
+ghost use Rattle.std.specs.Prelude.{◌≡◌, ◌+◌, ◌++◌, [], ◌∷◌, length, IfSome, None, not, true};
+ghost use Rattle.std.specs.List.{filter_map, list_any};
+ghost use Rattle.std.specs.Str.{bytes_eq};
 ghost use Rattle.wasm_syntax.specs.declared.module.Import.{Import};
 ghost use Rattle.wasm_validate.specs.Valid.{table_import, memory_import};
-ghost use Rattle.wasm_validate.specs.Faults.{type_fault, func_fault, import_fault, module_table_fault, module_memory_fault, global_fault, start_fault, elem_fault, segment_fault, NoFault, FirstFault, StartFault};
-ghost use Rattle.wasm_validate.specs.Answers.{Answers, IsScopeOf};
+ghost use Rattle.wasm_validate.specs.Faults.{type_fault, func_fault, import_fault, module_table_fault, module_memory_fault, global_fault, start_fault, elem_fault, segment_fault, export_fault, export_row, NoFault, FirstFault, StartFault};
+ghost use Rattle.wasm_validate.specs.Answers.{Answers, IsScopeOf, texts_of};
 
-use crate::fault::ValidFault;
+use crate::fault::{ValidFault, ValidWord};
 use crate::rows;
 use crate::scope::Scope;
-use wasm_syntax::{FuncType, Module};
+use indexmap::IndexSet;
+use std::alloc::Global;
+use wasm_syntax::{Export, FuncType, Module};
 
 pub(crate) fn check_types(types: &[FuncType], places: &[usize]) -> Result<(), ValidFault>
     requires { length places.now ≡ length types.now }
@@ -132,6 +135,56 @@ pub(crate) fn check_segments(module: &Module, scope: &Scope, places: &[usize]) -
 {
     for (n, segment) in module.segments.as_slice().iter().enumerate() {
         if let Some(word) = rows::fault_of_segment(module, scope, segment) {
+            return Err(ValidFault::Invalid {
+                at: places[n],
+                word,
+            });
+        }
+    }
+    Ok(())
+}
+
+/// Adds a name of an export, and tells whether it is a new one.
+fn add_name<'a>(names: &mut IndexSet<&'a str>, name: &'a str) -> Result<bool, ValidFault>
+    ensures added { Answers
+        (λ is_new. (is_new ≡ not (list_any (bytes_eq name.now) (texts_of names.old.keys)))
+            × (is_new ≡ true → texts_of names.new.keys ≡ texts_of names.old.keys ++ name.now ∷ []))
+        (λ at w. ⊥)
+        result }
+{
+    match names.insert(name) {
+        Ok(is_new) => Ok(is_new),
+        Err(_) => Err(ValidFault::OutOfMemory),
+    }
+}
+
+/// The fault of an export after those of these names. Its name is added where it has none.
+fn fault_of_export<'a>(module: &Module, scope: &Scope, names: &mut IndexSet<&'a str>, export: &'a Export) -> Result<Option<ValidWord>, ValidFault>
+    requires { IsScopeOf «module».now scope.now }
+    ensures fault { Answers
+        (λ fault. (fault ≡ export_row «module».now (texts_of names.old.keys) export.now)
+            × (fault ≡ None → texts_of names.new.keys ≡ texts_of names.old.keys ++ export.now.name ∷ []))
+        (λ at w. ⊥)
+        result }
+{
+    if !rows::names_some(module, scope, export.kind) {
+        return Ok(Some(ValidWord::Index));
+    }
+    if add_name(names, export.name.as_str())? {
+        Ok(None)
+    } else {
+        Ok(Some(ValidWord::Export))
+    }
+}
+
+pub(crate) fn check_exports(alloc: Global, module: &Module, scope: &Scope, places: &[usize]) -> Result<(), ValidFault>
+    requires places { length places.now ≡ length «module».now.exports }
+    requires scope { IsScopeOf «module».now scope.now }
+    ensures { Answers (λ done. NoFault (export_fault «module».now) «module».now.exports) (FirstFault (export_fault «module».now) «module».now.exports places.now) result }
+{
+    let mut names = IndexSet::new(alloc);
+    for (n, export) in module.exports.as_slice().iter().enumerate() {
+        if let Some(word) = fault_of_export(module, scope, &mut names, export)? {
             return Err(ValidFault::Invalid {
                 at: places[n],
                 word,
