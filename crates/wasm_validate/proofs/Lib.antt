@@ -1,1 +1,3 @@
 pub mod SectionLemmas
+pub mod OperandLemmas
+pub mod ActLemmas

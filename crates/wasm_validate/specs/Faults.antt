@@ -184,22 +184,22 @@ plain_conditions c _ = []
 -- is over the access width; `type` at a set of an immutable global.
 abbrev pub conditions : Context → List Types → Instr → List Condition
 conditions c labels (source.Plain op) = plain_conditions c op
-conditions c labels (source.LocalGet x) = condition (nat_lt x (length c.locals)) word.Index ∷ []
-conditions c labels (source.LocalSet x) = condition (nat_lt x (length c.locals)) word.Index ∷ []
-conditions c labels (source.LocalTee x) = condition (nat_lt x (length c.locals)) word.Index ∷ []
-conditions c labels (source.GlobalGet x) = condition (nat_lt x (length c.globals)) word.Index ∷ []
+conditions c labels (source.LocalGet x) = condition (is_some (slice_get c.locals x)) word.Index ∷ []
+conditions c labels (source.LocalSet x) = condition (is_some (slice_get c.locals x)) word.Index ∷ []
+conditions c labels (source.LocalTee x) = condition (is_some (slice_get c.locals x)) word.Index ∷ []
+conditions c labels (source.GlobalGet x) = condition (is_some (slice_get c.globals x)) word.Index ∷ []
 conditions c labels (source.GlobalSet x) =
-    condition (nat_lt x (length c.globals)) word.Index ∷ condition (is_mutable (slice_get c.globals x)) word.WrongType ∷ []
+    condition (is_some (slice_get c.globals x)) word.Index ∷ condition (is_mutable (slice_get c.globals x)) word.WrongType ∷ []
 conditions c labels (source.Load op align offset) =
     condition (nat_lt 0 (length c.memories)) word.Index ∷ condition (nat_le (2 ^ align) (load_width op)) word.Align ∷ []
 conditions c labels (source.Store op align offset) =
     condition (nat_lt 0 (length c.memories)) word.Index ∷ condition (nat_le (2 ^ align) (store_width op)) word.Align ∷ []
-conditions c labels (source.Br l) = condition (nat_lt l (length labels)) word.Label ∷ []
-conditions c labels (source.BrIf l) = condition (nat_lt l (length labels)) word.Label ∷ []
+conditions c labels (source.Br l) = condition (is_some (slice_get labels l)) word.Label ∷ []
+conditions c labels (source.BrIf l) = condition (is_some (slice_get labels l)) word.Label ∷ []
 conditions c labels (source.BrTable ls l) = condition (are_targets labels ls (slice_get labels l)) word.Label ∷ []
-conditions c labels (source.Call f) = condition (nat_lt f (length c.funcs)) word.Index ∷ []
+conditions c labels (source.Call f) = condition (is_some (slice_get c.funcs f)) word.Index ∷ []
 conditions c labels (source.CallIndirect t) =
-    condition (nat_lt 0 (length c.tables) && nat_lt t (length c.types)) word.Index ∷ []
+    condition (nat_lt 0 (length c.tables) && is_some (slice_get c.types t)) word.Index ∷ []
 conditions c labels _ = []
 
 -- The first fault of an item beside its operands, if there is one.

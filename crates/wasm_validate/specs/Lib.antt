@@ -2,4 +2,6 @@ pub mod Typing
 pub mod Open
 pub mod Valid
 pub mod Faults
+pub mod Operands
+pub mod Steps
 pub mod Answers

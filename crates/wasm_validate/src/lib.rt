@@ -2,6 +2,10 @@
 #![tactic(auto)]
 
 mod fault;
+mod instrs;
+mod needs;
+mod names;
+mod operands;
 mod rows;
 mod scope;
 mod sections;
