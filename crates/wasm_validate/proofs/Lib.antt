@@ -1,3 +1,5 @@
 pub mod SectionLemmas
 pub mod OperandLemmas
 pub mod ActLemmas
+pub mod WalkLemmas
+pub mod WalkSteps

@@ -4,4 +4,5 @@ pub mod Valid
 pub mod Faults
 pub mod Operands
 pub mod Steps
+pub mod Walks
 pub mod Answers

@@ -25,6 +25,10 @@ StandsFor (k ∷ ks) dead (t ∷ ts) = IsOfType k t × StandsFor ks dead ts
 abbrev pub Are : Operands → Types → Type 0
 Are s ts = StandsFor (reverse s.items.items) s.dead ts
 
+-- The same types have both.
+abbrev pub Exactly : (P Q : Types → Type 0) → Type 0
+Exactly P Q = ((ts : Types) → P ts → Q ts) × ((ts : Types) → Q ts → P ts)
+
 -- From types of which P holds, R leads to exactly those of which Q holds.
 abbrev pub Advances : (P Q : Types → Type 0) → (R : Types → Types → Type 0) → Type 0
 Advances P Q R =

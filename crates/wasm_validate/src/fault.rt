@@ -1,4 +1,5 @@
 use thiserror::Error;
+use wasm_values::OutOfMemory;
 
 /// What is wrong with an entry or instruction of a module.
 #[derive(Clone, Copy, Debug, PartialEq, Eq)]
@@ -22,4 +23,12 @@ pub enum ValidFault {
     Invalid { at: usize, word: ValidWord },
     #[error("out of memory")]
     OutOfMemory,
+}
+
+impl From<OutOfMemory> for ValidFault {
+    ghost from_gives = { λ error. ValidFault.OutOfMemory };
+
+    fn from(_error: OutOfMemory) -> ValidFault {
+        ValidFault::OutOfMemory
+    }
 }

@@ -1,6 +1,7 @@
 //! Which modules are valid. Sections are those of the WebAssembly Core Specification 1.0.
 #![tactic(auto)]
 
+mod body;
 mod fault;
 mod instrs;
 mod needs;
@@ -8,6 +9,7 @@ mod names;
 mod operands;
 mod rows;
 mod scope;
+mod walk;
 mod sections;
 
 pub use fault::{ValidFault, ValidWord};

@@ -3,7 +3,7 @@
 ghost use Rattle.std.specs.Prelude.{◌≡◌, [], ◌∷◌, ◌++◌, true, false, length, reverse, OnOk, IfOk, IsTrue};
 ghost use Rattle.wasm_values.specs.declared.number.ValType.{ValType};
 ghost use Rattle.wasm_validate.specs.Typing.{Types, types_of, Turns, Takes};
-ghost use Rattle.wasm_validate.specs.Operands.{IsOfType, IsCommon, Are, TookAny, Pushed, Advances, IsStuck, Goes, Took, Gave};
+ghost use Rattle.wasm_validate.specs.Operands.{Exactly, IsOfType, IsCommon, Are, TookAny, Pushed, Advances, IsStuck, Goes, Took, Gave};
 
 use smallvec::SmallVec;
 use std::alloc::Global;
@@ -43,6 +43,7 @@ impl Operands {
     pub fn new(alloc: Global) -> Operands
         ensures items { result.items.items ≡ [] }
         ensures dead { result.dead ≡ false }
+        ensures none { Exactly (Are result) (λ ts. ts ≡ []) }
     {
         Operands {
             items: SmallVec::new(alloc),
@@ -218,6 +219,16 @@ impl Operands {
         match results {
             Some(ty) => self.turn(&[ty, ValType::I32], &[ty]),
             None => self.turn(&[ValType::I32], &[]),
+        }
+    }
+
+    /// Puts these results on top.
+    pub fn give_with(&mut self, results: Option<ValType>) -> Result<(), OutOfMemory>
+        ensures { OnOk result (Gave (Are self.old) (Are self.new) (types_of results)) }
+    {
+        match results {
+            Some(ty) => self.give_all(&[ty]),
+            None => self.give_all(&[]),
         }
     }
 }
