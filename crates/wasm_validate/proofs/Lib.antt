@@ -3,3 +3,4 @@ pub mod OperandLemmas
 pub mod ActLemmas
 pub mod WalkLemmas
 pub mod WalkSteps
+pub mod BodyLemmas

@@ -26,7 +26,10 @@ pub enum ValidFault {
 }
 
 impl From<OutOfMemory> for ValidFault {
-    ghost from_gives = { λ error. ValidFault.OutOfMemory };
+    ghost use Rattle.std.specs.Prelude.{◌≡◌};
+    ghost use Rattle.wasm_validate.specs.declared.fault.ValidFault.TheVariants as fault;
+
+    ghost from_gives = { λ _ e. e ≡ fault.OutOfMemory };
 
     fn from(_error: OutOfMemory) -> ValidFault {
         ValidFault::OutOfMemory
