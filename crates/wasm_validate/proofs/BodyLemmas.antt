@@ -19,6 +19,9 @@ use Rattle.wasm_validate.specs.declared.fault.ValidWord.TheVariants as word
 use Rattle.wasm_validate.specs.declared.walk.Walk.{Walk}
 use Rattle.wasm_validate.specs.Typing.{Types, Context, BodyTyped}
 use Rattle.wasm_validate.specs.Open.{PartsTyped, labels_of, parts_before, TypedThrough}
+use Rattle.wasm_values.specs.declared.number.ValType.{ValType}
+use Rattle.wasm_syntax.specs.declared.module.FuncType.{FuncType}
+use Rattle.wasm_validate.specs.Valid.{type_at, type_or_none}
 use Rattle.wasm_validate.specs.Faults.{BodyFault, item_word}
 use Rattle.wasm_validate.specs.Operands.{Are}
 use Rattle.wasm_validate.specs.Walks.{then_inner, IsAt, Walked, IsOneSimple}
@@ -99,3 +102,17 @@ fault_at_end c w body places n e same h before never =
       word_is = refl;
       place = slice_get-get_or places n 0 (omega (arith, e, same));
     }
+
+-- ---- what a function's body may name
+
+type_at_is : (types : List FuncType) (t : ℕ) (ty : FuncType) → t < length types → ty ≡ get_or types t ty → type_at types t ≡ ty
+type_at_is types t ty h read = ap type_or_none (slice_get-get_or types t ty h ∙ ap Some (sym read))
+
+pub params_at : (types ys : List FuncType) (t : ℕ) (ty : FuncType) (params : List ValType) → ys ≡ types → t < length ys → ty ≡ get_or ys t ty → params ≡ ty.params → params ≡ (type_at types t).params
+params_at types ys t ty params e h read same =
+    same ∙ ap (λ (u : FuncType). u.params) (sym (type_at_is ys t ty h read)) ∙ ap (λ (us : List FuncType). (type_at us t).params) e
+
+pub results_at : (types ys : List FuncType) (t : ℕ) (ty : FuncType) (results : Types) (listed : List ValType) → ys ≡ types → t < length ys → ty ≡ get_or ys t ty → listed ≡ ty.results →
+    results ≡ reverse listed → results ≡ reverse (type_at types t).results
+results_at types ys t ty results listed e h read same was =
+    was ∙ ap reverse (same ∙ ap (λ (u : FuncType). u.results) (sym (type_at_is ys t ty h read)) ∙ ap (λ (us : List FuncType). (type_at us t).results) e)

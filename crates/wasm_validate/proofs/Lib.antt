@@ -4,3 +4,4 @@ pub mod ActLemmas
 pub mod WalkLemmas
 pub mod WalkSteps
 pub mod BodyLemmas
+pub mod ValidLemmas

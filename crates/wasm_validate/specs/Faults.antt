@@ -238,13 +238,13 @@ pub record BodyFault (c : Context) (body : List Instr) (places : List ℕ) (at :
   pub place : slice_get places number ≡ Some at
 
 -- A function's body is the first that isn't valid, and this is its fault.
-pub record CodeFault (m : Module) (k : Marks) (at : ℕ) (w : ValidWord) : Type 0 where
+pub record CodeFault (m : Module) (code : List (List ℕ)) (at : ℕ) (w : ValidWord) : Type 0 where
   pub number : ℕ
   pub func : Func
   pub there : slice_get m.funcs number ≡ Some func
   pub before : (n : ℕ) (f : Func) → n < number → slice_get m.funcs n ≡ Some f → FuncValid m f
   pub places : List ℕ
-  pub marked : slice_get k.code number ≡ Some places
+  pub marked : slice_get code number ≡ Some places
   pub body : BodyFault (context_of m func) func.body places at w
 
 -- The bodies are valid.
@@ -282,8 +282,22 @@ InvalidAt m k at w =
     In (FirstFault (export_fault m) m.exports k.exports at w) (NoFault (export_fault m) m.exports) (
     In (StartFault m m.start k.start at w) (IfSome m.start (λ f. start_fault m f ≡ None)) (
     In (FirstFault (λ n. elem_fault m) m.elems k.elems at w) (NoFault (λ n. elem_fault m) m.elems) (
-    In (CodeFault m k at w) (BodiesValid m) (
+    In (CodeFault m k.code at w) (BodiesValid m) (
     FirstFault (λ n. segment_fault m) m.segments k.segments at w))))))))))
+
+-- No entry of a module has a fault.
+pub record HasNoFault (m : Module) : Type 0 where
+  pub types : NoFault (λ n. type_fault) m.types
+  pub imports : NoFault (import_fault m) m.imports
+  pub funcs : NoFault (λ n. func_fault m) m.funcs
+  pub tables : NoFault (module_table_fault m) m.tables
+  pub memories : NoFault (module_memory_fault m) m.memories
+  pub globals : NoFault (λ n. global_fault m) m.globals
+  pub exports : NoFault (export_fault m) m.exports
+  pub start : IfSome m.start (λ f. start_fault m f ≡ None)
+  pub elems : NoFault (λ n. elem_fault m) m.elems
+  pub bodies : BodiesValid m
+  pub segments : NoFault (λ n. segment_fault m) m.segments
 
 -- The marks have one place for each entry and each instruction.
 pub record Marked (m : Module) (k : Marks) : Type 0 where

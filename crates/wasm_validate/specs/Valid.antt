@@ -226,10 +226,9 @@ pub record InRange (m : Module) : Type 0 where
 
 -- ---- the whole
 
--- A module is valid: each part is, there is at most one table and at most one memory, and the names of exports differ
+-- Each part of a module is valid, there is at most one table and at most one memory, and the names of exports differ
 -- (section 3.4.10).
-pub record Valid (m : Module) : Type 0 where
-  pub ranges : InRange m
+pub record PartsValid (m : Module) : Type 0 where
   pub types : All TypeValid m.types
   pub imports : All (λ (i : Import). ImportValid m.types i.kind) m.imports
   pub funcs : All (λ (f : Func). f.ty < length m.types) m.funcs
@@ -244,3 +243,8 @@ pub record Valid (m : Module) : Type 0 where
   pub elems : All (ElemValid m) m.elems
   pub bodies : All (FuncValid m) m.funcs
   pub segments : All (SegmentValid m) m.segments
+
+-- A module is valid: its parts are, and its numbers lie in their ranges (section 3.4.10).
+pub record Valid (m : Module) : Type 0 where
+  pub ranges : InRange m
+  pub parts : PartsValid m
