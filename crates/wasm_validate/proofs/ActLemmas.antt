@@ -128,13 +128,13 @@ le_to m n h = grind arith
 some_there : {X : Type 0} (o : Option X) (x : X) (w : ValidWord) → o ≡ Some x → first_failing (condition (is_some o) w ∷ []) ≡ None
 some_there o x w e = ap (λ p. first_failing (condition (is_some p) w ∷ [])) e
 
-same_type_to : (s t : ValType) → is_same_type s t ≡ true → s ≡ t
+pub same_type_to : (s t : ValType) → is_same_type s t ≡ true → s ≡ t
 same_type_to I32 I32 e = refl
 same_type_to I32 I64 e = cc
 same_type_to I64 I32 e = cc
 same_type_to I64 I64 e = refl
 
-same_type_self : (t : ValType) → is_same_type t t ≡ true
+pub same_type_self : (t : ValType) → is_same_type t t ≡ true
 same_type_self I32 = refl
 same_type_self I64 = refl
 

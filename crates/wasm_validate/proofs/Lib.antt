@@ -5,3 +5,4 @@ pub mod WalkLemmas
 pub mod WalkSteps
 pub mod BodyLemmas
 pub mod ValidLemmas
+pub mod PartsLemmas

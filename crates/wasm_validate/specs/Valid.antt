@@ -1,7 +1,6 @@
 -- Which modules are valid (Core Specification, section 3.4), part by part.
 use Rattle.std.specs.Prelude.{◌≡◌, ℕ, ◌+◌, ◌<◌, ◌≤◌, ◌^◌, if◌then◌else◌, List, [], ◌∷◌, ◌++◌, length, map, reverse, slice_get, Option, Some, None, IfSome, All, nat_eq}
-use Rattle.std.specs.List.{filter_map, IsDistinct}
-use Rattle.std.specs.Str.{bytes_eq}
+use Rattle.std.specs.List.{filter_map}
 use Rattle.wasm_values.specs.declared.number.Val.{Val}
 use Rattle.wasm_values.specs.declared.number.Val.TheVariants as val
 use Rattle.wasm_values.specs.declared.number.ValType.{ValType}
@@ -135,6 +134,10 @@ ExportValid m (export.Table t) = t < length (tables_of m)
 ExportValid m (export.Memory k) = k < length (memories_of m)
 ExportValid m (export.Global g) = g < length (globals_of m)
 
+-- No name stands at two places of a list.
+abbrev pub AreApart : List (List ℕ) → Type 0
+AreApart names = (i j : ℕ) (name : List ℕ) → slice_get names i ≡ Some name → slice_get names j ≡ Some name → i ≡ j
+
 -- The start function exists, and has the type `[] -> []` (section 3.4.7).
 abbrev pub StartValid : Module → ℕ → Type 0
 StartValid m f = slice_get (funcs_of m) f ≡ Some (record { params = []; results = [] })
@@ -238,7 +241,7 @@ pub record PartsValid (m : Module) : Type 0 where
   pub one_memory : length (memories_of m) ≤ 1
   pub globals : All (GlobalValid m) m.globals
   pub exports : All (λ (e : Export). ExportValid m e.kind) m.exports
-  pub names : IsDistinct bytes_eq (map (λ (e : Export). e.name) m.exports)
+  pub names : AreApart (map (λ (e : Export). e.name) m.exports)
   pub start : IfSome m.start (StartValid m)
   pub elems : All (ElemValid m) m.elems
   pub bodies : All (FuncValid m) m.funcs

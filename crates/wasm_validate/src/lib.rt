@@ -10,7 +10,9 @@ mod names;
 mod operands;
 mod rows;
 mod scope;
+mod valid;
 mod walk;
 mod sections;
 
 pub use fault::{ValidFault, ValidWord};
+pub use valid::{validate, ValidModule};

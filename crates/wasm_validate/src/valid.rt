@@ -1,0 +1,49 @@
+ghost use Rattle.std.specs.Prelude.{◌≡◌};
+ghost use Rattle.wasm_validate.specs.Valid.{PartsValid};
+ghost use Rattle.wasm_validate.specs.Faults.{Marked, InvalidAt};
+ghost use Rattle.wasm_validate.specs.Answers.{Answers};
+
+use crate::check::check_module;
+use crate::fault::ValidFault;
+use std::alloc::Global;
+use std::marker::Model;
+use wasm_syntax::{Marks, Module};
+
+/// A module that is valid by its type. Contracts see the module.
+#[derive(Debug, Drop)]
+pub struct ValidModule {
+    module: Module,
+}
+
+impl Model for ValidModule {
+    ghost use Rattle.wasm_syntax.specs.declared.module.Module.{Module};
+    ghost use Rattle.wasm_syntax.specs.contracts.module.Module as of_module;
+    ghost use Rattle.wasm_validate.specs.Valid.{PartsValid};
+
+    ghost Value = { Module };
+
+    ghost coded = { of_module.the_row.coded };
+
+    ghost view = { λ v. v.module };
+
+    ghost invariant = { λ v. PartsValid v.module };
+}
+
+impl ValidModule {
+    /// The module, lent.
+    pub fn module(&self) -> &Module
+        ensures same { result.now ≡ self.now }
+        ensures valid { PartsValid self.now }
+    {
+        &self.module
+    }
+}
+
+/// Tells whether a module is valid, or else the place and word of its first fault. A refusal drops the module.
+pub fn validate(alloc: Global, module: Module, marks: &Marks) -> Result<ValidModule, ValidFault>
+    requires { Marked «module» marks.now }
+    ensures { Answers (λ v. (v ≡ «module») × PartsValid «module») (InvalidAt «module» marks.now) result }
+{
+    check_module(alloc, &module, marks)?;
+    Ok(ValidModule { module })
+}
