@@ -6,3 +6,4 @@ pub mod WalkSteps
 pub mod BodyLemmas
 pub mod ValidLemmas
 pub mod PartsLemmas
+pub mod PrefixLemmas

@@ -24,7 +24,7 @@ use Rattle.wasm_validate.proofs.ActLemmas.{Same}
 
 -- ---- one more instruction of a sequence
 
-snoc_to : (c : Context) (labels : List Types) (is : List Instr) (i : Instr) (ins outs : Types) → SequenceTyped c labels (sequence_of (is ++ i ∷ [])) ins outs →
+pub snoc_to : (c : Context) (labels : List Types) (is : List Instr) (i : Instr) (ins outs : Types) → SequenceTyped c labels (sequence_of (is ++ i ∷ [])) ins outs →
     (mid : Types) × SequenceTyped c labels (sequence_of is) ins mid × InstructionTyped c labels (instruction_of i) mid outs
 snoc_to c labels [] i ins outs t =
     (ins, refl, let M : Types → Type 0 = λ o. InstructionTyped c labels (instruction_of i) ins o in subst M t.2 t.1)
@@ -108,7 +108,7 @@ abbrev pub taken_by : Head → Types
 taken_by (head.If ty) = I32 ∷ []
 taken_by _ = []
 
-before_taken : (hd : Head) (below : Types) → taken_by hd ++ below ≡ before_part (Some hd) below
+pub before_taken : (hd : Head) (below : Types) → taken_by hd ++ below ≡ before_part (Some hd) below
 before_taken (head.Block ty) below = refl
 before_taken (head.Loop ty) below = refl
 before_taken (head.If ty) below = refl
@@ -122,27 +122,33 @@ whole_typed c labels (head.Loop ty) first is t f m ins outs r = subst (λ i. Ins
 whole_typed c labels (head.If ty) None is t f m ins outs r = subst (λ i. InstructionTyped c labels i ins outs) (sym (instruction_of-If ty is)) (t, m, r)
 whole_typed c labels (head.If ty) (Some first) is t f m ins outs r = subst (λ i. InstructionTyped c labels i ins outs) (sym (instruction_of-IfElse ty first is)) (f, t, r)
 
--- what a typing of a whole block says of its parts
-record Parted (c : Context) (labels : List Types) (hd : Head) (first : Option (List Instr)) (is : List Instr) (ins outs : Types) : Type 0 where
-  side : SequenceTyped c (label_of c (Some hd) ∷ labels) (sequence_of is) [] (part_results c (Some hd))
-  may_end : MayEnd hd (is_some first)
-  turns : Turns (taken_by hd) (part_results c (Some hd)) ins outs
+-- of an `if`, that its first side has a typing
+abbrev pub IfFirst : Context → List Types → Head → Option (List Instr) → Type 0
+IfFirst c labels (head.If ty) first = FirstSideTyped c (label_of c (Some (head.If ty)) ∷ labels) (Some (head.If ty)) first
+IfFirst c labels _ first = Unit {0}
 
-parted : (c : Context) (labels : List Types) (hd : Head) (first : Option (List Instr)) (is : List Instr) (ins outs : Types) →
+-- what a typing of a whole block says of its parts
+pub record Parted (c : Context) (labels : List Types) (hd : Head) (firsts : Option (List Instr)) (is : List Instr) (ins outs : Types) : Type 0 where
+  pub side : SequenceTyped c (label_of c (Some hd) ∷ labels) (sequence_of is) [] (part_results c (Some hd))
+  pub may_end : MayEnd hd (is_some firsts)
+  pub first : IfFirst c labels hd firsts
+  pub turns : Turns (taken_by hd) (part_results c (Some hd)) ins outs
+
+pub parted : (c : Context) (labels : List Types) (hd : Head) (first : Option (List Instr)) (is : List Instr) (ins outs : Types) →
     InstructionTyped c labels (instruction_of (instr_of (Some hd) first is)) ins outs → Parted c labels hd first is ins outs
 parted c labels (head.Block ty) first is ins outs t =
-    let r = subst (λ i. InstructionTyped c labels i ins outs) (instruction_of-Block ty is) t in record { side = r.0; may_end = tt; turns = r.1 }
+    let r = subst (λ i. InstructionTyped c labels i ins outs) (instruction_of-Block ty is) t in record { side = r.0; may_end = tt; first = tt; turns = r.1 }
 parted c labels (head.Loop ty) first is ins outs t =
-    let r = subst (λ i. InstructionTyped c labels i ins outs) (instruction_of-Loop ty is) t in record { side = r.0; may_end = tt; turns = r.1 }
+    let r = subst (λ i. InstructionTyped c labels i ins outs) (instruction_of-Loop ty is) t in record { side = r.0; may_end = tt; first = tt; turns = r.1 }
 parted c labels (head.If ty) None is ins outs t =
-    let r = subst (λ i. InstructionTyped c labels i ins outs) (instruction_of-If ty is) t in record { side = r.0; may_end = r.1; turns = r.2 }
+    let r = subst (λ i. InstructionTyped c labels i ins outs) (instruction_of-If ty is) t in record { side = r.0; may_end = r.1; first = tt; turns = r.2 }
 parted c labels (head.If ty) (Some first) is ins outs t =
-    let r = subst (λ i. InstructionTyped c labels i ins outs) (instruction_of-IfElse ty first is) t in record { side = r.1; may_end = tt; turns = r.2 }
+    let r = subst (λ i. InstructionTyped c labels i ins outs) (instruction_of-IfElse ty first is) t in record { side = r.1; may_end = tt; first = r.0; turns = r.2 }
 
-abbrev part : Head → Option (List Instr) → List Instr → Part
+abbrev pub part : Head → Option (List Instr) → List Instr → Part
 part hd first is = record { head = Some hd; first = first; instrs = is }
 
-as_part : (p : Part) (hd : Head) → p.head ≡ Some hd → p ≡ part hd p.first p.instrs
+pub as_part : (p : Part) (hd : Head) → p.head ≡ Some hd → p ≡ part hd p.first p.instrs
 as_part p hd e = λ j. record { head = e j; first = p.first; instrs = p.instrs }
 
 block_ends_at : (c : Context) (s n : Operands) (o : Open) (os : List Open) (first : Option (List Instr)) (is : List Instr) (q : Part) (ps : List Part) →
