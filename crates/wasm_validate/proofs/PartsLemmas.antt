@@ -1,10 +1,10 @@
 -- A module without faults is valid part by part, and a valid one has no faults.
-use Rattle.std.proofs.Common.{◌≡◌, ℕ, ◌+◌, ◌<◌, ◌≤◌, zero, suc, Bool, true, false, ◌&&◌, ◌||◌, not, nat_eq, nat_lt, nat_le, List, [], ◌∷◌, ◌++◌, length, map, take, drop, slice_get, get_or, Option, Some, None, refl, sym, ap, ◌∙◌, subst, arith, ◌⊎◌, inl, inr, IfSome, option_map, take-append-drop}
+use Rattle.std.proofs.Common.{◌≡◌, ℕ, ◌+◌, ◌<◌, ◌≤◌, zero, suc, Bool, true, false, ◌&&◌, ◌||◌, not, nat_eq, nat_lt, nat_le, List, [], ◌∷◌, ◌++◌, length, map, take, drop, slice_get, get_or, Option, Some, None, refl, sym, ap, ◌∙◌, subst, arith, ◌⊎◌, inl, inr, IfSome, option_map, Err, take-append-drop}
 use Rattle.std.specs.List.{filter_map, cons_option, All, list_any, list_all}
 use Rattle.std.specs.Option.{is_some}
 use Rattle.std.specs.Str.{bytes_eq}
 use Rattle.std.specs.Cmp.Lexicographic.{same_text, other_text}
-use Rattle.std.proofs.lemmas.List.{length-append, take_more}
+use Rattle.std.proofs.lemmas.List.{length-append, length-map, take_more}
 use Rattle.std.proofs.lemmas.List.Elements.{filter_map-append}
 use Rattle.std.proofs.lemmas.List.Sums.{AllPass-from_list_all, list_all-from_AllPass}
 use Rattle.std.proofs.lemmas.Option.{slice_get-get_or, slice_get_within, get_or_from_slice_get, slice_get-map}
@@ -21,12 +21,18 @@ use Rattle.wasm_syntax.specs.declared.module.Func.{Func}
 use Rattle.wasm_syntax.specs.declared.module.Elem.{Elem}
 use Rattle.wasm_syntax.specs.declared.module.Segment.{Segment}
 use Rattle.wasm_syntax.specs.declared.module.Module.{Module}
+use Rattle.wasm_syntax.specs.declared.module.Marks.{Marks}
+use Rattle.wasm_syntax.specs.FlatForm.{flat_body}
 use Rattle.wasm_validate.specs.declared.fault.ValidWord.{ValidWord}
 use Rattle.wasm_validate.specs.declared.fault.ValidWord.TheVariants as word
-use Rattle.wasm_validate.specs.Valid.{table_import, memory_import, func_types_of, funcs_of, tables_of, memories_of, globals_of, imported_globals_of, const_type, TypeValid, TableValid, MemoryValid, ImportValid, GlobalValid, ExportValid, AreApart, StartValid, ElemValid, SegmentValid, FuncValid, PartsValid}
-use Rattle.wasm_validate.specs.Faults.{Condition, condition, first_failing, type_fault, import_fault, func_fault, module_table_fault, module_memory_fault, global_fault, names_one, export_fault, is_empty_type, start_fault, elem_fault, segment_fault, has_type, NoFault, HasNoFault, BodiesValid}
+use Rattle.wasm_validate.specs.declared.fault.ValidFault.{ValidFault}
+use Rattle.wasm_validate.specs.declared.fault.ValidFault.TheVariants as fault
+use Rattle.wasm_validate.specs.Answers.{Answers}
+use Rattle.wasm_validate.specs.Valid.{type_at, context_of, table_import, memory_import, func_types_of, funcs_of, tables_of, memories_of, globals_of, imported_globals_of, const_type, TypeValid, TableValid, MemoryValid, ImportValid, GlobalValid, ExportValid, AreApart, StartValid, ElemValid, SegmentValid, FuncValid, PartsValid}
+use Rattle.wasm_validate.specs.Faults.{Condition, condition, first_failing, type_fault, import_fault, func_fault, module_table_fault, module_memory_fault, global_fault, names_one, export_fault, is_empty_type, start_fault, elem_fault, segment_fault, has_type, NoFault, HasNoFault, BodiesValid, FirstFault, StartFault, CodeFault, InvalidAt}
 use Rattle.wasm_validate.proofs.ActLemmas.{first_holds, rest_holds, both_hold, lt_from, lt_to, same_type_to, same_type_self}
-use Rattle.wasm_validate.proofs.ValidLemmas.{all_from, none_from, type_valid, type_none, func_valid, func_none, row_valid, row_none, table_valid, table_none, memory_valid, memory_none, one_table, one_memory}
+use Rattle.wasm_validate.proofs.ValidLemmas.{all_from, none_from, type_valid, type_none, func_valid, func_none, row_valid, row_none, table_valid, table_none, memory_valid, memory_none, one_table, one_memory, to_zero}
+use Rattle.wasm_validate.proofs.PrefixLemmas.{typed_through}
 
 -- ---- constant expressions
 
@@ -264,3 +270,99 @@ parts_valid m h =
       bodies = λ k d less. h.bodies k (get_or m.funcs k d) (slice_get-get_or m.funcs k d less);
       segments = all_from (λ n. segment_fault m) (SegmentValid m) m.segments (λ n. segment_valid m) h.segments;
     }
+
+-- ---- a valid module has no faults
+
+start_to : (m : Module) (o : Option ℕ) → IfSome o (StartValid m) → IfSome o (λ f. start_fault m f ≡ None)
+start_to m None h = tt
+start_to m (Some f) h =
+    both_hold (nat_lt f (length (func_types_of m))) word.Index (condition (is_empty_type (slice_get (funcs_of m) f)) word.Start ∷ [])
+      (lt_to f (length (func_types_of m)) (let w = slice_get_within (funcs_of m) f _ h in let l = length-map (func_types_of m) (type_at m.types) in omega (arith, w, l)))
+      (both_hold (is_empty_type (slice_get (funcs_of m) f)) word.Start [] (ap is_empty_type h) refl)
+
+-- what is given before an entry that gives something
+given_before : {X Y : Type 0} (f : X → Option Y) (xs : List X) (n : ℕ) (x : X) → slice_get xs n ≡ Some x → is_some (f x) ≡ true → suc (length (filter_map f (take n xs))) ≤ length (filter_map f xs)
+given_before f [] n x h e = cc
+given_before {X} {Y} f (y ∷ xs) zero x h e =
+    let same : y ≡ x = cc in some_first (f y) (ap (λ z. is_some (f z)) same ∙ e)
+  where
+  some_first : (o : Option Y) → is_some o ≡ true → 1 ≤ length (cons_option o (filter_map f xs))
+  some_first None e = cc
+  some_first (Some z) e = omega arith
+given_before {X} {Y} f (y ∷ xs) (suc n) x h e = with_first (f y) (given_before f xs n x h e)
+  where
+  with_first : (o : Option Y) → suc (length (filter_map f (take n xs))) ≤ length (filter_map f xs) → suc (length (cons_option o (filter_map f (take n xs)))) ≤ length (cons_option o (filter_map f xs))
+  with_first None less = less
+  with_first (Some z) less = omega (arith, less)
+
+first_import : {Y : Type 0} (f : Import → Option Y) (is : List Import) (more : List Y) (n : ℕ) (i : Import) → length (filter_map f is ++ more) ≤ 1 → slice_get is n ≡ Some i → is_some (f i) ≡ true →
+    nat_eq (length (filter_map f (take n is))) 0 ≡ true
+first_import f is more n i few h e =
+    let g = given_before f is n i h e in
+    let l = length-append (filter_map f is) more in
+    to_zero (length (filter_map f (take n is))) (omega (arith, g, l, few))
+
+to_zero_sum : {Y : Type 0} (given more : List Y) (n : ℕ) → length (given ++ more) ≤ 1 → n < length more → nat_eq (length given + n) 0 ≡ true
+to_zero_sum given more n few h = let l = length-append given more in to_zero (length given + n) (omega (arith, l, few, h))
+
+pub parts_none : (m : Module) → PartsValid m → HasNoFault m
+parts_none m h =
+    record {
+      types = none_from (λ n. type_fault) TypeValid m.types (λ n. type_none) h.types;
+      imports = λ n i there.
+        let V : Import → Type 0 = λ j. ImportValid m.types j.kind in
+        row_none m.types _ _ i.kind (subst V (get_or_from_slice_get m.imports n i i there) (h.imports n i (slice_get_within m.imports n i there)))
+          (λ some. first_import (λ (j : Import). table_import j.kind) m.imports m.tables n i h.one_table there some)
+          (λ some. first_import (λ (j : Import). memory_import j.kind) m.imports m.memories n i h.one_memory there some);
+      funcs = none_from (λ n. func_fault m) (λ (f : Func). f.ty < length m.types) m.funcs (λ n. func_none m) h.funcs;
+      tables = λ n l there.
+        table_none _ l (to_zero_sum (filter_map (λ (j : Import). table_import j.kind) m.imports) m.tables n h.one_table (slice_get_within m.tables n l there))
+          (subst TableValid (get_or_from_slice_get m.tables n l l there) (h.tables n l (slice_get_within m.tables n l there)));
+      memories = λ n l there.
+        memory_none _ l (to_zero_sum (filter_map (λ (j : Import). memory_import j.kind) m.imports) m.memories n h.one_memory (slice_get_within m.memories n l there))
+          (subst MemoryValid (get_or_from_slice_get m.memories n l l there) (h.memories n l (slice_get_within m.memories n l there)));
+      globals = none_from (λ n. global_fault m) (GlobalValid m) m.globals (λ n. global_none m) h.globals;
+      exports = export_none m h.exports h.names;
+      start = start_to m m.start h.start;
+      elems = none_from (λ n. elem_fault m) (ElemValid m) m.elems (λ n. elem_none m) h.elems;
+      bodies = λ n f there. subst (FuncValid m) (get_or_from_slice_get m.funcs n f f there) (h.bodies n f (slice_get_within m.funcs n f there));
+      segments = none_from (λ n. segment_fault m) (SegmentValid m) m.segments (λ n. segment_none m) h.segments;
+    }
+
+-- ---- a fault refutes it
+
+no_first : {X : Type 0} (fault : ℕ → X → Option ValidWord) (xs : List X) (places : List ℕ) (at : ℕ) (w : ValidWord) → FirstFault fault xs places at w → NoFault fault xs → ⊥
+no_first fault xs places at w f none = never w (sym (none f.entry f.item f.there) ∙ f.here)
+  where
+  never : (w : ValidWord) → None ≡ Some w → ⊥
+  never w e = cc
+
+no_start : (m : Module) (o : Option ℕ) (place at : ℕ) (w : ValidWord) → StartFault m o place at w → IfSome o (λ f. start_fault m f ≡ None) → ⊥
+no_start m None place at w f none = f
+no_start m (Some s) place at w f none = never w (sym none ∙ f.0)
+  where
+  never : (w : ValidWord) → None ≡ Some w → ⊥
+  never w e = cc
+
+no_code : (m : Module) (code : List (List ℕ)) (at : ℕ) (w : ValidWord) → CodeFault m code at w → BodiesValid m → ⊥
+no_code m code at w f valid =
+    f.body.here (typed_through (context_of m f.func) f.func.body f.body.number (slice_get_within (flat_body f.func.body) f.body.number f.body.item f.body.there) (valid f.number f.func f.there))
+
+pub refuted : (m : Module) (k : Marks) (at : ℕ) (w : ValidWord) → InvalidAt m k at w → HasNoFault m → ⊥
+refuted m k at w i h =
+  elim i [ inl f ↦ no_first (λ n. type_fault) m.types k.types at w f h.types | inr i1 ↦
+  elim i1.1 [ inl f ↦ no_first (import_fault m) m.imports k.imports at w f h.imports | inr i2 ↦
+  elim i2.1 [ inl f ↦ no_first (λ n. func_fault m) m.funcs k.funcs at w f h.funcs | inr i3 ↦
+  elim i3.1 [ inl f ↦ no_first (module_table_fault m) m.tables k.tables at w f h.tables | inr i4 ↦
+  elim i4.1 [ inl f ↦ no_first (module_memory_fault m) m.memories k.memories at w f h.memories | inr i5 ↦
+  elim i5.1 [ inl f ↦ no_first (λ n. global_fault m) m.globals k.globals at w f h.globals | inr i6 ↦
+  elim i6.1 [ inl f ↦ no_first (export_fault m) m.exports k.exports at w f h.exports | inr i7 ↦
+  elim i7.1 [ inl f ↦ no_start m m.start k.start at w f h.start | inr i8 ↦
+  elim i8.1 [ inl f ↦ no_first (λ n. elem_fault m) m.elems k.elems at w f h.elems | inr i9 ↦
+  elim i9.1 [ inl f ↦ no_code m k.code at w f h.bodies | inr i10 ↦
+  no_first (λ n. segment_fault m) m.segments k.segments at w i10.1 h.segments ] ] ] ] ] ] ] ] ] ]
+
+pub refusal : {A : Type 0} (m : Module) (k : Marks) (e : ValidFault) (holds : A → Type 0) → Answers {A = Unit {0}} (λ done. HasNoFault m) (InvalidAt m k) (Err e) →
+    Answers holds (λ at w. InvalidAt m k at w × (PartsValid m → ⊥)) (Err e)
+refusal m k (fault.Invalid at w) holds a = (a, λ valid. refuted m k at w a (parts_none m valid))
+refusal m k fault.OutOfMemory holds a = tt

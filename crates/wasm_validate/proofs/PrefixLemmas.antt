@@ -10,10 +10,11 @@ use Rattle.wasm_syntax.specs.declared.flat.Flat.TheVariants as flat
 use Rattle.wasm_syntax.specs.declared.flat.Head.{Head}
 use Rattle.wasm_syntax.specs.declared.flat.Head.TheVariants as head
 use Rattle.wasm_syntax.specs.FlatForm.{is_simple, flat_body}
-use Rattle.wasm_syntax.specs.Sides.{Side, ToEnd, ToElse, after, read_item, read}
+use Rattle.wasm_syntax.specs.Sides.{Side, ToEnd, ToElse, after, read_item, read, sides_in, sides_from}
 use Rattle.wasm_syntax.specs.Parts.{Part, own, begun, with_instr, turned, closed_part, instr_of}
 use Rattle.wasm_syntax.specs.Trees.{sequence_of}
 use Rattle.wasm_syntax.proofs.SideLemmas.{read-flat_body}
+use Rattle.wasm_syntax.proofs.RestLaws.{live}
 use Rattle.wasm_validate.specs.Typing.{Types, Context, SequenceTyped, BodyTyped}
 use Rattle.wasm_validate.specs.Open.{part_results, label_of, labels_of, before_part, FirstSideTyped, PartsTyped, parts_before, TypedThrough}
 use Rattle.wasm_validate.specs.Walks.{then_inner}
@@ -207,12 +208,122 @@ back c flat.End left ss e (p ∷ []) h t = t
 back c flat.End left ss e (p ∷ q ∷ ps) h t =
     let m = at_end left ss e p (q ∷ ps) h in back_end c p.head p q ps refl m.0 m.1 t
 
-forth : (x : Flat) (left ss : List Side) → read_item x left ≡ Some ss → (ps : List Part) → Match ps ss → (x ≡ flat.End → 1 < length ps) → Match (then_inner ps x) left
-forth (flat.Block ty) left ss e ps h n = match_block ty left ss e ps h
-forth (flat.Loop ty) left ss e ps h n = match_loop ty left ss e ps h
-forth (flat.If ty) left ss e ps h n = match_if ty left ss e ps h
-forth (flat.One i) left ss e ps h n = match_one i left ss e ps h
-forth flat.Else left ss e ps h n = match_else left ss e ps h
-forth flat.End left ss e [] h n = absurd (let z = n refl in omega (arith, z))
-forth flat.End left ss e (p ∷ []) h n = absurd (let z = n refl in omega (arith, z))
-forth flat.End left ss e (p ∷ q ∷ ps) h n = match_end left ss e p q ps h
+some_left : (p : Part) (left : List Side) → 0 < length left → Match [] left → ⊥
+some_left p [] less h = absurd (omega (arith, less))
+some_left p (s ∷ left) less h = h
+
+forth : (x : Flat) (left ss : List Side) → read_item x left ≡ Some ss → (ps : List Part) → Match ps ss → 0 < length ps → 0 < length left → Match (then_inner ps x) left
+forth (flat.Block ty) left ss e ps h n l = match_block ty left ss e ps h
+forth (flat.Loop ty) left ss e ps h n l = match_loop ty left ss e ps h
+forth (flat.If ty) left ss e ps h n l = match_if ty left ss e ps h
+forth (flat.One i) left ss e ps h n l = match_one i left ss e ps h
+forth flat.Else left ss e ps h n l = match_else left ss e ps h
+forth flat.End left ss e [] h n l = absurd (omega (arith, n))
+forth flat.End left ss e (p ∷ []) h n l = absurd (some_left p left l (at_end left ss e p [] h).2)
+forth flat.End left ss e (p ∷ q ∷ ps) h n l = match_end left ss e p q ps h
+
+-- ---- over a whole body
+
+-- reading these items leaves some sides
+record Reads (xs : List Flat) : Type 0 where
+  sides : List Side
+  is : read xs ≡ Some sides
+
+-- reading an item before what is left
+record ReadsItem (x : Flat) (xs : List Flat) (ss : List Side) : Type 0 where
+  left : List Side
+  rest : read xs ≡ Some left
+  item : read_item x left ≡ Some ss
+
+reads_item : (x : Flat) (xs : List Flat) (ss : List Side) → read (x ∷ xs) ≡ Some ss → ReadsItem x xs ss
+unfolding read
+reads_item x xs ss e = by_rest (read xs) refl e
+  where
+  by_rest : (o : Option (List Side)) → read xs ≡ o → option_and_then (read_item x) o ≡ Some ss → ReadsItem x xs ss
+  by_rest None w e = absurd (none_some ss e)
+  by_rest (Some left) w e = record { left = left; rest = w; item = e }
+
+-- at an item, what is left before and behind it
+record ReadsAt (xs : List Flat) (n : ℕ) (x : Flat) (ss : List Side) : Type 0 where
+  left : List Side
+  rest : read (drop (suc n) xs) ≡ Some left
+  item : read_item x left ≡ Some ss
+
+reads_at : (xs : List Flat) (n : ℕ) (x : Flat) (ss : List Side) → slice_get xs n ≡ Some x → read (drop n xs) ≡ Some ss → ReadsAt xs n x ss
+reads_at [] n x ss h e = cc
+reads_at (y ∷ xs) zero x ss h e =
+    let r = reads_item y xs ss e in
+    let M : Flat → Type 0 = λ z. read_item z r.left ≡ Some ss in
+    record { left = r.left; rest = r.rest; item = subst M (some_same y x h) r.item }
+reads_at (y ∷ xs) (suc n) x ss h e =
+    let r = reads_at xs n x ss h e in record { left = r.left; rest = r.rest; item = r.item }
+
+-- the open parts before a place suit what is left there
+record SuitsAt (body : List Instr) (n : ℕ) : Type 0 where
+  sides : List Side
+  read_is : read (drop n (flat_body body)) ≡ Some sides
+  match : Match (parts_before body n) sides
+
+sides_are : (items : List Flat) (n : ℕ) (ss : List Side) → read (drop n items) ≡ Some ss → sides_from items n ≡ ss
+unfolding sides_from
+sides_are items n ss e = ap sides_in e
+
+some_parts : (body : List Instr) (n : ℕ) (ss : List Side) → n < length (flat_body body) → read (drop n (flat_body body)) ≡ Some ss → 0 < length ss
+some_parts body n ss h e =
+    let L : List Side → Type 0 = λ xs. 0 < length xs in subst L (sides_are (flat_body body) n ss e) (live body n h)
+
+match_some : (ps : List Part) (ss : List Side) → Match ps ss → 0 < length ss → 0 < length ps
+match_some [] [] h l = l
+match_some [] (s ∷ ss) h l = absurd h
+match_some (p ∷ ps) ss h l = omega arith
+
+item_at : (xs : List Flat) (n : ℕ) → n < length xs → (x : Flat) × (slice_get xs n ≡ Some x)
+item_at xs n h = (get_or xs n flat.End, slice_get-get_or xs n flat.End h)
+
+suits_at : (body : List Instr) (n : ℕ) → n < length (flat_body body) → SuitsAt body n
+suits_at body zero h =
+    let M : List Part → Type 0 = λ ps. Match ps (ToEnd body ∷ []) in
+    record { sides = ToEnd body ∷ []; read_is = read-flat_body body; match = subst M (sym (first_parts body)) (refl, refl, tt) }
+suits_at body (suc n) h =
+    let before = suits_at body n (omega (arith, h)) in
+    let (x, there) = item_at (flat_body body) n (omega (arith, h)) in
+    let r = reads_at (flat_body body) n x before.sides there before.read_is in
+    let next = forth x r.left before.sides r.item (parts_before body n) before.match
+                 (match_some (parts_before body n) before.sides before.match (some_parts body n before.sides (omega (arith, h)) before.read_is))
+                 (some_parts body (suc n) r.left h r.rest) in
+    let M : List Part → Type 0 = λ ps. Match ps r.left in
+    let z : suc n ≡ n + 1 = omega arith in
+    let same : parts_before body (suc n) ≡ then_inner (parts_before body n) x = ap (parts_before body) z ∙ next_parts body n x there in
+    record { sides = r.left; read_is = r.rest; match = subst M (sym same) next }
+
+back_one : (c : Context) (body : List Instr) (n : ℕ) → suc n < length (flat_body body) → PartsTyped c None (parts_before body (suc n)) → PartsTyped c None (parts_before body n)
+back_one c body n h t =
+    let before = suits_at body n (omega (arith, h)) in
+    let (x, there) = item_at (flat_body body) n (omega (arith, h)) in
+    let r = reads_at (flat_body body) n x before.sides there before.read_is in
+    let z : suc n ≡ n + 1 = omega arith in
+    let same : parts_before body (suc n) ≡ then_inner (parts_before body n) x = ap (parts_before body) z ∙ next_parts body n x there in
+    let M : List Part → Type 0 = λ ps. PartsTyped c None ps in
+    back c x r.left before.sides r.item (parts_before body n) before.match (subst M same t)
+
+back_all : (c : Context) (body : List Instr) (k n : ℕ) → n + k < length (flat_body body) → PartsTyped c None (parts_before body (n + k)) → PartsTyped c None (parts_before body n)
+back_all c body zero n h t =
+    let M : ℕ → Type 0 = λ j. PartsTyped c None (parts_before body j) in
+    let z : n + zero ≡ n = omega arith in
+    subst M z t
+back_all c body (suc k) n h t =
+    let M : ℕ → Type 0 = λ j. PartsTyped c None (parts_before body j) in
+    let z : n + suc k ≡ suc (n + k) = omega arith in
+    back_all c body k n (omega (arith, h)) (back_one c body (n + k) (omega (arith, h)) (subst M z t))
+
+-- a body with a typing has one through each of its items
+pub typed_through : (c : Context) (body : List Instr) (n : ℕ) → n < length (flat_body body) → BodyTyped c (sequence_of body) → TypedThrough c body n
+typed_through c body n h t =
+    (λ less.
+       let last = length (flat_body body) - 1 in
+       let M : List Part → Type 0 = λ ps. PartsTyped c None ps in
+       let N : ℕ → Type 0 = λ j. PartsTyped c None (parts_before body j) in
+       let whole : PartsTyped c None (parts_before body last) = subst M (sym (whole_parts body last (omega (arith, less)))) ((c.results, t), tt, tt) in
+       let e : last ≡ (n + 1) + (last - (n + 1)) = omega (arith, less) in
+       back_all c body (last - (n + 1)) (n + 1) (omega (arith, less, e)) (subst N e whole),
+     λ e. t)

@@ -147,7 +147,7 @@ none_given {X} {Y} f (x ∷ xs) h = skipped (f x) (h 0 x refl) ∙ none_given f 
 is_zero : (n : ℕ) → nat_eq n 0 ≡ true → n ≡ 0
 is_zero n h = grind arith
 
-to_zero : (n : ℕ) → n ≡ 0 → nat_eq n 0 ≡ true
+pub to_zero : (n : ℕ) → n ≡ 0 → nat_eq n 0 ≡ true
 to_zero n h = grind arith
 
 one_given : {X Y : Type 0} (f : X → Option Y) (xs : List X) →

@@ -42,8 +42,10 @@ impl ValidModule {
 /// Tells whether a module is valid, or else the place and word of its first fault. A refusal drops the module.
 pub fn validate(alloc: Global, module: Module, marks: &Marks) -> Result<ValidModule, ValidFault>
     requires { Marked «module» marks.now }
-    ensures { Answers (λ v. (v ≡ «module») × PartsValid «module») (InvalidAt «module» marks.now) result }
+    ensures { Answers (λ v. (v ≡ «module») × PartsValid «module») (λ at w. InvalidAt «module» marks.now at w × (PartsValid «module» → ⊥)) result }
 {
-    check_module(alloc, &module, marks)?;
-    Ok(ValidModule { module })
+    match check_module(alloc, &module, marks) {
+        Ok(()) => Ok(ValidModule { module }),
+        Err(fault) => Err(fault),
+    }
 }
