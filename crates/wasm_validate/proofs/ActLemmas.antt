@@ -1,9 +1,8 @@
 -- What instructions do to operands.
-use Rattle.std.proofs.Common.{◌≡◌, ℕ, ◌+◌, ◌-◌, ◌*◌, ◌<◌, ◌≤◌, ◌^◌, zero, suc, Bool, true, false, nat_lt, nat_le, List, [], ◌∷◌, ◌++◌, length, reverse, slice_get, get_or, Option, Some, None, Result, Ok, Err, refl, sym, ap, ◌∙◌, subst, arith, ◌&&◌, IfOk}
+use Rattle.std.proofs.Common.{◌≡◌, ℕ, ◌+◌, ◌-◌, ◌<◌, ◌≤◌, ◌^◌, zero, suc, Bool, true, false, nat_lt, nat_le, List, [], ◌∷◌, ◌++◌, length, slice_get, get_or, Option, Some, None, Result, Ok, Err, refl, sym, ap, ◌∙◌, subst, arith, ◌&&◌, IfOk}
 use Rattle.std.proofs.lemmas.Grind.{pow_more}
-use Rattle.std.specs.List.{list_all, All}
+use Rattle.std.specs.List.{All}
 use Rattle.std.specs.Option.{is_some, unwrap_or}
-use Rattle.std.specs.Cmp.Lexicographic.{pointwise}
 use Rattle.std.proofs.lemmas.List.Sums.{AllPass-from_list_all, list_all-from_AllPass}
 use Rattle.wasm_values.specs.declared.error.OutOfMemory.{OutOfMemory}
 use Rattle.wasm_values.specs.declared.number.ValType.{ValType}
@@ -14,32 +13,29 @@ use Rattle.wasm_syntax.specs.declared.instr.LoadOp.{LoadOp}
 use Rattle.wasm_syntax.specs.declared.instr.StoreOp.{StoreOp}
 use Rattle.wasm_syntax.specs.declared.instr.Instr as source
 use Rattle.wasm_syntax.specs.declared.instr.Instr.{Instr}
-use Rattle.wasm_syntax.specs.declared.instr.Instr.TheVariants as instr
 use Rattle.wasm_syntax.specs.declared.module.GlobalType.{GlobalType}
 use Rattle.wasm_syntax.specs.FlatForm.{is_simple}
 use Rattle.wasm_syntax.specs.Trees.{instruction_of}
-use Rattle.wasm_syntax.specs.Trees as tree
 use Rattle.wasm_validate.specs.declared.fault.ValidWord.{ValidWord}
 use Rattle.wasm_validate.specs.declared.fault.ValidWord.TheVariants as word
-use Rattle.wasm_validate.specs.declared.operands.Operands.{Operands}
-use Rattle.wasm_validate.specs.Typing.{Types, Context, Turns, Takes, load_width, store_width, load_type, store_type, PlainTyped, InstructionTyped}
+use Rattle.wasm_validate.specs.Typing.{Types, Context, Turns, load_width, store_width, load_type, store_type, PlainTyped, InstructionTyped}
 use Rattle.wasm_validate.specs.Faults.{Condition, condition, first_failing, conditions, plain_conditions, is_mutable, is_same_type, same_types, is_label_of, are_targets}
-use Rattle.wasm_validate.specs.Operands.{Are, Advances, IsStuck, Goes, Took}
-use Rattle.wasm_validate.specs.Steps.{IsReady, Acts, Steps, word_of}
-use Rattle.wasm_validate.proofs.OperandLemmas.{are_some}
+use Rattle.wasm_validate.specs.Operands.{IsStuck, Goes, Took}
+use Rattle.wasm_validate.specs.Steps.{IsReady, Acts, word_of}
 
 pub aligned_far : (a w : ℕ) → 3 < a → w ≤ 8 → nat_le a 3 ≡ nat_le (2 ^ a) w
 aligned_far a w h small = let big = sixteen a h in grind (arith, h, small, big)
   where
-  sixteen_more : (k : ℕ) → 16 ≤ 2 ^ (k + 4)
-  sixteen_more zero = omega arith
-  sixteen_more (suc k) =
-      let more = sixteen_more k in
-      let e : 2 ^ (suc k + 4) ≡ 2 ^ ((k + 4) + 1) = ap (λ n. 2 ^ n) (omega arith) in
-      let d = pow_more 2 (k + 4) in
-      omega (arith, more, e, d)
-  sixteen : (a : ℕ) → 3 < a → 16 ≤ 2 ^ a
-  sixteen a h = let P : ℕ → Type 0 = λ n. 16 ≤ 2 ^ n in subst P (omega (arith, h)) (sixteen_more (a - 4))
+    sixteen_more : (k : ℕ) → 16 ≤ 2 ^ (k + 4)
+    sixteen_more zero = omega arith
+    sixteen_more (suc k) =
+        let more = sixteen_more k in
+        let e : 2 ^ (suc k + 4) ≡ 2 ^ ((k + 4) + 1) = ap (λ n. 2 ^ n) (omega arith) in
+        let d = pow_more 2 (k + 4) in
+        omega (arith, more, e, d)
+
+    sixteen : (a : ℕ) → 3 < a → 16 ≤ 2 ^ a
+    sixteen a h = let P : ℕ → Type 0 = λ n. 16 ≤ 2 ^ n in subst P (omega (arith, h)) (sixteen_more (a - 4))
 
 -- two relations are the same
 abbrev pub Same : (R S : Types → Types → Type 0) → Type 0
@@ -78,21 +74,23 @@ some_is x y e = cc
 
 pub looked_up : {X : Type 0} (o : Option X) (x : X) (F : X → Types → Types → Type 0) → o ≡ Some x →
     Same (F x) (λ ins outs. (y : X) × (o ≡ Some y) × F y ins outs)
-looked_up {X} o x F e =
-    (λ ins outs r. (x, e, r),
-     λ ins outs s. let M : X → Type 0 = λ y. F y ins outs in subst M (some_is s.0 x (sym s.1 ∙ e)) s.2)
+looked_up {X} o x F e = (
+  λ ins outs r. (x, e, r),
+  λ ins outs s. let M : X → Type 0 = λ y. F y ins outs in subst M (some_is s.0 x (sym s.1 ∙ e)) s.2,
+)
 
 pub looked_up_with : {X : Type 0} (o : Option X) (x : X) (G : X → Type 0) (F : X → Types → Types → Type 0) → o ≡ Some x → G x →
     Same (F x) (λ ins outs. (y : X) × (o ≡ Some y) × G y × F y ins outs)
-looked_up_with {X} o x G F e g =
-    (λ ins outs r. (x, e, g, r),
-     λ ins outs s. let M : X → Type 0 = λ y. F y ins outs in subst M (some_is s.0 x (sym s.1 ∙ e)) s.3)
+looked_up_with {X} o x G F e g = (
+  λ ins outs r. (x, e, g, r),
+  λ ins outs s. let M : X → Type 0 = λ y. F y ins outs in subst M (some_is s.0 x (sym s.1 ∙ e)) s.3,
+)
 
 pub not_found : {X : Type 0} (o : Option X) → o ≡ None → (F : X → Type 0) → ((y : X) × (o ≡ Some y) × F y) → ⊥
 not_found o e F h = absurd_none h.0 (sym e ∙ h.1)
   where
-  absurd_none : {X : Type 0} (x : X) → None ≡ Some x → ⊥
-  absurd_none x e = cc
+    absurd_none : {X : Type 0} (x : X) → None ≡ Some x → ⊥
+    absurd_none x e = cc
 
 pub guarded : (A : Type 0) (R : Types → Types → Type 0) → A → Same R (λ ins outs. A × R ins outs)
 guarded A R a = (λ ins outs r. (a, r), λ ins outs s. s.1)
@@ -229,9 +227,10 @@ same_turns us us' vs vs' e f =
     subst N f (subst M e (same_self (Turns us vs)))
 
 goes_over : (w : Bool) (P Q N : Types → Type 0) (us vs : Types) → Took true P Q (I32 ∷ []) → Goes w Q N (Turns us vs) → Goes w P N (Turns (I32 ∷ us) vs)
-goes_over true P Q N us vs took a =
-    (λ outs n. let e = a.0 outs n in (I32 ∷ e.0, (took e.0).1 e.1, (e.2.0, ap (λ xs. I32 ∷ xs) e.2.1, e.2.2)),
-     λ ins outs p t. a.1 (us ++ t.0) outs ((took (us ++ t.0)).0 (subst P t.1 p)) (t.0, refl, t.2))
+goes_over true P Q N us vs took a = (
+  λ outs n. let e = a.0 outs n in (I32 ∷ e.0, (took e.0).1 e.1, (e.2.0, ap (λ xs. I32 ∷ xs) e.2.1, e.2.2)),
+  λ ins outs p t. a.1 (us ++ t.0) outs ((took (us ++ t.0)).0 (subst P t.1 p)) (t.0, refl, t.2),
+)
 goes_over false P Q N us vs took a = λ ins outs p t. a (us ++ t.0) outs ((took (us ++ t.0)).0 (subst P t.1 p)) (t.0, refl, t.2)
 
 pub turned_over : (r : Result Bool OutOfMemory) (P Q N : Types → Type 0) (us vs : Types) → Took true P Q (I32 ∷ []) →
@@ -252,22 +251,25 @@ access_there b a w v h = (first_holds b w (condition a v ∷ []) h, first_holds 
 pub same_load : (c : Context) (labels : List Types) (op : LoadOp) (align offset : ℕ) (t : ValType) → t ≡ load_type op → IsReady c labels (source.Load op align offset) →
     Same (Turns (I32 ∷ []) (t ∷ [])) (InstructionTyped c labels (instruction_of (source.Load op align offset)))
 same_load c labels op align offset t e h =
-    let (a, b) = access_there (nat_lt 0 (length c.memories)) (nat_le (2 ^ align) (load_width op)) word.Index word.Align h in
-    (λ ins outs r. (lt_from 0 (length c.memories) a, le_from (2 ^ align) (load_width op) b, (same_turns (I32 ∷ []) (I32 ∷ []) (t ∷ []) (load_type op ∷ []) refl (ap (λ u. u ∷ []) e)).0 ins outs r),
-     λ ins outs s. (same_turns (I32 ∷ []) (I32 ∷ []) (t ∷ []) (load_type op ∷ []) refl (ap (λ u. u ∷ []) e)).1 ins outs s.2)
+    let (a, b) = access_there (nat_lt 0 (length c.memories)) (nat_le (2 ^ align) (load_width op)) word.Index word.Align h in (
+      λ ins outs r. (lt_from 0 (length c.memories) a, le_from (2 ^ align) (load_width op) b, (same_turns (I32 ∷ []) (I32 ∷ []) (t ∷ []) (load_type op ∷ []) refl (ap (λ u. u ∷ []) e)).0 ins outs r),
+      λ ins outs s. (same_turns (I32 ∷ []) (I32 ∷ []) (t ∷ []) (load_type op ∷ []) refl (ap (λ u. u ∷ []) e)).1 ins outs s.2,
+    )
 
 pub same_store : (c : Context) (labels : List Types) (op : StoreOp) (align offset : ℕ) (t : ValType) → t ≡ store_type op → IsReady c labels (source.Store op align offset) →
     Same (Turns (t ∷ I32 ∷ []) []) (InstructionTyped c labels (instruction_of (source.Store op align offset)))
 same_store c labels op align offset t e h =
-    let (a, b) = access_there (nat_lt 0 (length c.memories)) (nat_le (2 ^ align) (store_width op)) word.Index word.Align h in
-    (λ ins outs r. (lt_from 0 (length c.memories) a, le_from (2 ^ align) (store_width op) b, (same_turns (t ∷ I32 ∷ []) (store_type op ∷ I32 ∷ []) [] [] (ap (λ u. u ∷ I32 ∷ []) e) refl).0 ins outs r),
-     λ ins outs s. (same_turns (t ∷ I32 ∷ []) (store_type op ∷ I32 ∷ []) [] [] (ap (λ u. u ∷ I32 ∷ []) e) refl).1 ins outs s.2)
+    let (a, b) = access_there (nat_lt 0 (length c.memories)) (nat_le (2 ^ align) (store_width op)) word.Index word.Align h in (
+      λ ins outs r. (lt_from 0 (length c.memories) a, le_from (2 ^ align) (store_width op) b, (same_turns (t ∷ I32 ∷ []) (store_type op ∷ I32 ∷ []) [] [] (ap (λ u. u ∷ I32 ∷ []) e) refl).0 ins outs r),
+      λ ins outs s. (same_turns (t ∷ I32 ∷ []) (store_type op ∷ I32 ∷ []) [] [] (ap (λ u. u ∷ I32 ∷ []) e) refl).1 ins outs s.2,
+    )
 
 pub need_stuck : (P : Types → Type 0) (c : Context) (labels : List Types) (i : Instr) (w : ValidWord) → is_simple i ≡ true → first_failing (conditions c labels i) ≡ Some w →
     IsStuck P (InstructionTyped c labels (instruction_of i)) × (w ≡ word_of (conditions c labels i))
-need_stuck P c labels i w s e =
-    (λ ins outs p t. never w (sym (typed_ready c labels i ins outs s t) ∙ e),
-     ap (λ o. unwrap_or o word.Stack) (sym e))
+need_stuck P c labels i w s e = (
+  λ ins outs p t. never w (sym (typed_ready c labels i ins outs s t) ∙ e),
+  ap (λ o. unwrap_or o word.Stack) (sym e),
+)
   where
-  never : (w : ValidWord) → None ≡ Some w → ⊥
-  never w e = cc
+    never : (w : ValidWord) → None ≡ Some w → ⊥
+    never w e = cc

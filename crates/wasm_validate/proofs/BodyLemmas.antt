@@ -1,9 +1,9 @@
 -- The walk over a whole body.
-use Rattle.std.proofs.Common.{◌≡◌, ℕ, ◌+◌, ◌-◌, ◌<◌, ◌≤◌, suc, ◌⊎◌, inl, inr, List, [], ◌∷◌, ◌++◌, length, reverse, take, slice_get, get_or, Option, Some, None, refl, sym, ap, ◌∙◌, subst, arith}
+use Rattle.std.proofs.Common.{◌≡◌, ℕ, ◌+◌, ◌<◌, ◌⊎◌, inl, inr, List, [], ◌∷◌, ◌++◌, length, reverse, take, slice_get, get_or, Some, None, refl, sym, ap, ◌∙◌, subst, arith}
 use Rattle.std.proofs.lemmas.Grind.{common_steps}
 use Rattle.std.proofs.lemmas.List.{length-append}
 use Rattle.std.proofs.Math.Seq.{get_or-append_seam}
-use Rattle.std.proofs.lemmas.Option.{slice_get_within, slice_get-get_or}
+use Rattle.std.proofs.lemmas.Option.{slice_get-get_or}
 use Rattle.wasm_syntax.specs.declared.instr.Instr.{Instr}
 use Rattle.wasm_syntax.specs.declared.flat.Flat.{Flat}
 use Rattle.wasm_syntax.specs.declared.flat.Flat.TheVariants as flat
@@ -18,11 +18,11 @@ use Rattle.wasm_validate.specs.declared.fault.ValidWord.{ValidWord}
 use Rattle.wasm_validate.specs.declared.fault.ValidWord.TheVariants as word
 use Rattle.wasm_validate.specs.declared.walk.Walk.{Walk}
 use Rattle.wasm_validate.specs.Typing.{Types, Context, BodyTyped}
-use Rattle.wasm_validate.specs.Open.{PartsTyped, labels_of, parts_before, TypedThrough}
+use Rattle.wasm_validate.specs.Open.{PartsTyped, parts_before, TypedThrough}
 use Rattle.wasm_values.specs.declared.number.ValType.{ValType}
 use Rattle.wasm_syntax.specs.declared.module.FuncType.{FuncType}
 use Rattle.wasm_validate.specs.Valid.{type_at, type_or_none}
-use Rattle.wasm_validate.specs.Faults.{BodyFault, item_word}
+use Rattle.wasm_validate.specs.Faults.{BodyFault}
 use Rattle.wasm_validate.specs.Operands.{Are}
 use Rattle.wasm_validate.specs.Walks.{then_inner, IsAt, Walked, IsOneSimple}
 use Rattle.wasm_validate.proofs.WalkLemmas.{inner_of, open_typed, body_typed, body_untyped}
@@ -70,18 +70,22 @@ further c w n body k x less there before h =
     let at = subst M (sym (next_parts body k x there)) h in
     (at, λ j h'. elim (at_or_before j k h') [ inl b ↦ before j b | inr e ↦ here at j e ])
   where
-  at_or_before : (j k : ℕ) → j < k + 1 → (j < k) ⊎ (j ≡ k)
-  at_or_before j k h = grind arith
-  here : IsAt c n (parts_before body (k + 1)) → (j : ℕ) → j ≡ k → TypedThrough c body j
-  here at j e =
-      let T : ℕ → Type 0 = λ m. TypedThrough c body m in
-      subst T (sym e) ((λ _. open_typed c None n.operands _ (parts_before body (k + 1)) at.open_), λ same. absurd (omega (arith, less, same)))
+    at_or_before : (j k : ℕ) → j < k + 1 → (j < k) ⊎ (j ≡ k)
+    at_or_before j k h = grind arith
+
+    here : IsAt c n (parts_before body (k + 1)) → (j : ℕ) → j ≡ k → TypedThrough c body j
+    here at j e =
+        let T : ℕ → Type 0 = λ m. TypedThrough c body m in
+        subst T (sym e) ((λ _. open_typed c None n.operands _ (parts_before body (k + 1)) at.open_), λ same. absurd (omega (arith, less, same)))
 
 pub fault_at : (c : Context) (n : Walk) (body : List Instr) (places : List ℕ) (k : ℕ) (x : Flat) (w : ValidWord) → k + 1 < length (flat_body body) → length places ≡ length (flat_body body) →
     slice_get (flat_body body) k ≡ Some x → TypedBefore c body k → Walked (Some w) c n (parts_before body k) x → BodyFault c body places (get_or places k 0) w
 fault_at c n body places k x w less same there before h =
     record {
-      number = k; item = x; there = there; before = before;
+      number = k;
+      item = x;
+      there = there;
+      before = before;
       here = λ t. h.0 (let M : List Part → Type 0 = λ ps. PartsTyped c None ps in subst M (next_parts body k x there) (t.0 less));
       word_is = h.1;
       place = slice_get-get_or places k 0 (omega (arith, less, same));
@@ -97,7 +101,10 @@ pub fault_at_end : (c : Context) (w : Walk) (body : List Instr) (places : List �
 fault_at_end c w body places n e same h before never =
     let M : List Part → Type 0 = λ ps. IsAt c w ps in
     record {
-      number = n; item = flat.End; there = last_of (form.flat body) flat.End n e; before = before;
+      number = n;
+      item = flat.End;
+      there = last_of (form.flat body) flat.End n e;
+      before = before;
       here = λ t. body_untyped c w.operands _ body (subst M (whole_parts body n e) h).open_ never (t.1 e);
       word_is = refl;
       place = slice_get-get_or places n 0 (omega (arith, e, same));

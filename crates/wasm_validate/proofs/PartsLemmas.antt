@@ -1,17 +1,15 @@
 -- A module without faults is valid part by part, and a valid one has no faults.
-use Rattle.std.proofs.Common.{◌≡◌, ℕ, ◌+◌, ◌<◌, ◌≤◌, zero, suc, Bool, true, false, ◌&&◌, ◌||◌, not, nat_eq, nat_lt, nat_le, List, [], ◌∷◌, ◌++◌, length, map, take, drop, slice_get, get_or, Option, Some, None, refl, sym, ap, ◌∙◌, subst, arith, ◌⊎◌, inl, inr, IfSome, option_map, Err, take-append-drop}
+use Rattle.std.proofs.Common.{◌≡◌, ℕ, ◌+◌, ◌<◌, ◌≤◌, zero, suc, Bool, true, false, ◌&&◌, ◌||◌, not, nat_eq, nat_lt, List, [], ◌∷◌, ◌++◌, length, map, take, slice_get, get_or, Option, Some, None, refl, sym, ap, ◌∙◌, subst, arith, ◌⊎◌, inl, inr, IfSome, option_map, Err}
 use Rattle.std.specs.List.{filter_map, cons_option, All, list_any, list_all}
 use Rattle.std.specs.Option.{is_some}
 use Rattle.std.specs.Str.{bytes_eq}
 use Rattle.std.specs.Cmp.Lexicographic.{same_text, other_text}
-use Rattle.std.proofs.lemmas.List.{length-append, length-map, take_more}
-use Rattle.std.proofs.lemmas.List.Elements.{filter_map-append}
+use Rattle.std.proofs.lemmas.List.{length-append, length-map}
 use Rattle.std.proofs.lemmas.List.Sums.{AllPass-from_list_all, list_all-from_AllPass}
 use Rattle.std.proofs.lemmas.Option.{slice_get-get_or, slice_get_within, get_or_from_slice_get, slice_get-map}
 use Rattle.wasm_values.specs.declared.number.ValType.{ValType}
-use Rattle.wasm_values.specs.declared.number.ValType.TheVariants.{I32, I64}
+use Rattle.wasm_values.specs.declared.number.ValType.TheVariants.{I32}
 use Rattle.wasm_syntax.specs.declared.module.FuncType.{FuncType}
-use Rattle.wasm_syntax.specs.declared.module.Limits.{Limits}
 use Rattle.wasm_syntax.specs.declared.module.Import.{Import}
 use Rattle.wasm_syntax.specs.declared.module.Export.{Export}
 use Rattle.wasm_syntax.specs.declared.module.ExportKind.{ExportKind}
@@ -29,7 +27,7 @@ use Rattle.wasm_validate.specs.declared.fault.ValidFault.{ValidFault}
 use Rattle.wasm_validate.specs.declared.fault.ValidFault.TheVariants as fault
 use Rattle.wasm_validate.specs.Answers.{Answers}
 use Rattle.wasm_validate.specs.Valid.{type_at, context_of, table_import, memory_import, func_types_of, funcs_of, tables_of, memories_of, globals_of, imported_globals_of, const_type, TypeValid, TableValid, MemoryValid, ImportValid, GlobalValid, ExportValid, AreApart, StartValid, ElemValid, SegmentValid, FuncValid, PartsValid}
-use Rattle.wasm_validate.specs.Faults.{Condition, condition, first_failing, type_fault, import_fault, func_fault, module_table_fault, module_memory_fault, global_fault, names_one, export_fault, is_empty_type, start_fault, elem_fault, segment_fault, has_type, NoFault, HasNoFault, BodiesValid, FirstFault, StartFault, CodeFault, InvalidAt}
+use Rattle.wasm_validate.specs.Faults.{Condition, condition, type_fault, import_fault, func_fault, module_table_fault, module_memory_fault, global_fault, names_one, export_fault, is_empty_type, start_fault, elem_fault, segment_fault, has_type, NoFault, HasNoFault, BodiesValid, FirstFault, StartFault, CodeFault, InvalidAt}
 use Rattle.wasm_validate.proofs.ActLemmas.{first_holds, rest_holds, both_hold, lt_from, lt_to, same_type_to, same_type_self}
 use Rattle.wasm_validate.proofs.ValidLemmas.{all_from, none_from, type_valid, type_none, func_valid, func_none, row_valid, row_none, table_valid, table_none, memory_valid, memory_none, one_table, one_memory, to_zero}
 use Rattle.wasm_validate.proofs.PrefixLemmas.{typed_through}
@@ -67,7 +65,6 @@ names m (export.Table t) h = lt_to t (length (tables_of m)) h
 names m (export.Memory k) h = lt_to k (length (memories_of m)) h
 names m (export.Global g) h = lt_to g (length (globals_of m)) h
 
-
 or_both : (a b : Bool) → a ≡ false → b ≡ false → (a || b) ≡ false
 or_both true b e f = cc
 or_both false b e f = f
@@ -95,14 +92,15 @@ seen_before (y ∷ xs) (suc i) (suc j) x h e =
 
 apart_from : (xs : List (List ℕ)) → ((n : ℕ) (x : List ℕ) → slice_get xs n ≡ Some x → list_any (bytes_eq x) (take n xs) ≡ false) → AreApart xs
 apart_from xs new i j x e f = elim (order i j) [
-    | inl before ↦ absurd (never (sym (seen_before xs i j x before e) ∙ new j x f))
-    | inr rest ↦ elim rest [ inl same ↦ same | inr after ↦ absurd (never (sym (seen_before xs j i x after f) ∙ new i x e)) ]
-  ]
+  | inl before ↦ absurd (never (sym (seen_before xs i j x before e) ∙ new j x f))
+  | inr rest ↦ elim rest [ inl same ↦ same | inr after ↦ absurd (never (sym (seen_before xs j i x after f) ∙ new i x e)) ]
+]
   where
-  order : (i j : ℕ) → (i < j) ⊎ ((i ≡ j) ⊎ (j < i))
-  order i j = grind arith
-  never : true ≡ false → ⊥
-  never e = cc
+    order : (i j : ℕ) → (i < j) ⊎ ((i ≡ j) ⊎ (j < i))
+    order i j = grind arith
+
+    never : true ≡ false → ⊥
+    never e = cc
 
 unseen : (xs : List (List ℕ)) (n : ℕ) (x : List ℕ) → ((k : ℕ) → k < n → slice_get xs k ≡ Some x → ⊥) → list_any (bytes_eq x) (take n xs) ≡ false
 unseen [] zero x h = refl
@@ -111,9 +109,9 @@ unseen (y ∷ xs) zero x h = refl
 unseen (y ∷ xs) (suc n) x h =
     or_both (bytes_eq x y) (list_any (bytes_eq x) (take n xs)) (first (bytes_eq x y) refl) (unseen xs n x (λ k less e. h (suc k) (omega (arith, less)) e))
   where
-  first : (b : Bool) → bytes_eq x y ≡ b → b ≡ false
-  first false e = refl
-  first true e = absurd (h 0 (omega arith) (ap Some (sym (same_text x y (sym e)))))
+    first : (b : Bool) → bytes_eq x y ≡ b → b ≡ false
+    first false e = refl
+    first true e = absurd (h 0 (omega arith) (ap Some (sym (same_text x y (sym e)))))
 
 apart_to : (xs : List (List ℕ)) → AreApart xs → (n : ℕ) (x : List ℕ) → slice_get xs n ≡ Some x → list_any (bytes_eq x) (take n xs) ≡ false
 apart_to xs apart n x e = unseen xs n x (λ k less f. let same = apart k n x f e in omega (arith, less, same))
@@ -121,9 +119,9 @@ apart_to xs apart n x e = unseen xs n x (λ k less f. let same = apart k n x f e
 taken_names : (es : List Export) (n : ℕ) → take n (map (λ (o : Export). o.name) es) ≡ map (λ (o : Export). o.name) (take n es)
 taken_names [] n = by_zero n
   where
-  by_zero : (n : ℕ) → take n (map (λ (o : Export). o.name) []) ≡ map (λ (o : Export). o.name) (take n [])
-  by_zero zero = refl
-  by_zero (suc n) = refl
+    by_zero : (n : ℕ) → take n (map (λ (o : Export). o.name) []) ≡ map (λ (o : Export). o.name) (take n [])
+    by_zero zero = refl
+    by_zero (suc n) = refl
 taken_names (e ∷ es) zero = refl
 taken_names (e ∷ es) (suc n) = ap (λ xs. e.name ∷ xs) (taken_names es n)
 
@@ -153,9 +151,9 @@ names_distinct : (m : Module) → NoFault (export_fault m) m.exports → AreApar
 names_distinct m none =
     let f : Export → List ℕ = λ e. e.name in
     apart_from (map f m.exports) (λ n x h.
-      let (e, there, same) = named_at m.exports n x h in
-      let P : List ℕ → Type 0 = λ y. list_any (bytes_eq y) (take n (map f m.exports)) ≡ false in
-      subst P same (ap (list_any (bytes_eq e.name)) (taken_names m.exports n) ∙ export_new m n e (none n e there)))
+    let (e, there, same) = named_at m.exports n x h in
+    let P : List ℕ → Type 0 = λ y. list_any (bytes_eq y) (take n (map f m.exports)) ≡ false in
+    subst P same (ap (list_any (bytes_eq e.name)) (taken_names m.exports n) ∙ export_new m n e (none n e there)))
 
 export_none : (m : Module) → All (λ (e : Export). ExportValid m e.kind) m.exports → AreApart (map (λ (e : Export). e.name) m.exports) → NoFault (export_fault m) m.exports
 export_none m valid distinct n e there =
@@ -164,8 +162,8 @@ export_none m valid distinct n e there =
     let here = apart_to (map f m.exports) distinct n e.name (slice_get-map f m.exports n ∙ ap (λ o. option_map f o) there) in
     let V : Export → Type 0 = λ o. ExportValid m o.kind in
     both_hold (names_one m e.kind) word.Index (condition (not b) word.Export ∷ [])
-      (names m e.kind (subst V (get_or_from_slice_get m.exports n e e there) (valid n e (slice_get_within m.exports n e there))))
-      (both_hold (not b) word.Export [] (not_false b (ap (list_any (bytes_eq e.name)) (sym (taken_names m.exports n)) ∙ here)) refl)
+    (names m e.kind (subst V (get_or_from_slice_get m.exports n e e there) (valid n e (slice_get_within m.exports n e there))))
+    (both_hold (not b) word.Export [] (not_false b (ap (list_any (bytes_eq e.name)) (sym (taken_names m.exports n)) ∙ here)) refl)
 
 -- ---- start
 
@@ -173,8 +171,8 @@ empty_list : {X : Type 0} (xs : List X) → nat_eq (length xs) 0 ≡ true → xs
 empty_list [] e = refl
 empty_list (x ∷ xs) e = absurd (positive (length xs) e)
   where
-  positive : (n : ℕ) → nat_eq (suc n) 0 ≡ true → ⊥
-  positive n e = grind arith
+    positive : (n : ℕ) → nat_eq (suc n) 0 ≡ true → ⊥
+    positive n e = grind arith
 
 and_left : (a b : Bool) → (a && b) ≡ true → a ≡ true
 and_left true b e = refl
@@ -194,7 +192,7 @@ empty_type (Some ty) e =
 start_valid : (m : Module) (f : ℕ) → start_fault m f ≡ None → StartValid m f
 start_valid m f h =
     empty_type (slice_get (funcs_of m) f)
-      (first_holds (is_empty_type (slice_get (funcs_of m) f)) word.Start [] (rest_holds (nat_lt f (length (func_types_of m))) word.Index (condition (is_empty_type (slice_get (funcs_of m) f)) word.Start ∷ []) h))
+    (first_holds (is_empty_type (slice_get (funcs_of m) f)) word.Start [] (rest_holds (nat_lt f (length (func_types_of m))) word.Index (condition (is_empty_type (slice_get (funcs_of m) f)) word.Start ∷ []) h))
 
 -- ---- segments
 
@@ -213,10 +211,11 @@ elem_valid m e h =
     let third : List Condition = condition (has_type ty I32) word.WrongType ∷ last in
     let second : List Condition = condition (is_some ty) word.Const ∷ third in
     let h1 = rest_holds t word.Index second h in
-    let h2 = rest_holds (is_some ty) word.Const third h1 in
-    (lt_from e.table (length (tables_of m)) (first_holds t word.Index second h),
-     typed_to ty I32 (first_holds (has_type ty I32) word.WrongType last h2),
-     all_below e.funcs (length (func_types_of m)) (first_holds b word.Index [] (rest_holds (has_type ty I32) word.WrongType last h2)))
+    let h2 = rest_holds (is_some ty) word.Const third h1 in (
+      lt_from e.table (length (tables_of m)) (first_holds t word.Index second h),
+      typed_to ty I32 (first_holds (has_type ty I32) word.WrongType last h2),
+      all_below e.funcs (length (func_types_of m)) (first_holds b word.Index [] (rest_holds (has_type ty I32) word.WrongType last h2)),
+    )
 
 elem_none : (m : Module) (e : Elem) → ElemValid m e → elem_fault m e ≡ None
 elem_none m e h =
@@ -226,17 +225,18 @@ elem_none m e h =
     let last : List Condition = condition b word.Index ∷ [] in
     let third : List Condition = condition (has_type ty I32) word.WrongType ∷ last in
     both_hold t word.Index (condition (is_some ty) word.Const ∷ third) (lt_to e.table (length (tables_of m)) h.0)
-      (both_hold (is_some ty) word.Const third (ap is_some h.1)
-        (both_hold (has_type ty I32) word.WrongType last (typed_from ty I32 h.1) (both_hold b word.Index [] (below_all e.funcs (length (func_types_of m)) h.2) refl)))
+    (both_hold (is_some ty) word.Const third (ap is_some h.1)
+    (both_hold (has_type ty I32) word.WrongType last (typed_from ty I32 h.1) (both_hold b word.Index [] (below_all e.funcs (length (func_types_of m)) h.2) refl)))
 
 segment_valid : (m : Module) (s : Segment) → segment_fault m s ≡ None → SegmentValid m s
 segment_valid m s h =
     let ty = const_type (globals_of m) s.offset in
     let t = nat_lt s.memory (length (memories_of m)) in
     let last : List Condition = condition (has_type ty I32) word.WrongType ∷ [] in
-    let second : List Condition = condition (is_some ty) word.Const ∷ last in
-    (lt_from s.memory (length (memories_of m)) (first_holds t word.Index second h),
-     typed_to ty I32 (first_holds (has_type ty I32) word.WrongType [] (rest_holds (is_some ty) word.Const last (rest_holds t word.Index second h))))
+    let second : List Condition = condition (is_some ty) word.Const ∷ last in (
+      lt_from s.memory (length (memories_of m)) (first_holds t word.Index second h),
+      typed_to ty I32 (first_holds (has_type ty I32) word.WrongType [] (rest_holds (is_some ty) word.Const last (rest_holds t word.Index second h))),
+    )
 
 segment_none : (m : Module) (s : Segment) → SegmentValid m s → segment_fault m s ≡ None
 segment_none m s h =
@@ -244,7 +244,7 @@ segment_none m s h =
     let t = nat_lt s.memory (length (memories_of m)) in
     let last : List Condition = condition (has_type ty I32) word.WrongType ∷ [] in
     both_hold t word.Index (condition (is_some ty) word.Const ∷ last) (lt_to s.memory (length (memories_of m)) h.0)
-      (both_hold (is_some ty) word.Const last (ap is_some h.1) (both_hold (has_type ty I32) word.WrongType [] (typed_from ty I32 h.1) refl))
+    (both_hold (is_some ty) word.Const last (ap is_some h.1) (both_hold (has_type ty I32) word.WrongType [] (typed_from ty I32 h.1) refl))
 
 -- ---- all parts
 
@@ -277,8 +277,8 @@ start_to : (m : Module) (o : Option ℕ) → IfSome o (StartValid m) → IfSome 
 start_to m None h = tt
 start_to m (Some f) h =
     both_hold (nat_lt f (length (func_types_of m))) word.Index (condition (is_empty_type (slice_get (funcs_of m) f)) word.Start ∷ [])
-      (lt_to f (length (func_types_of m)) (let w = slice_get_within (funcs_of m) f _ h in let l = length-map (func_types_of m) (type_at m.types) in omega (arith, w, l)))
-      (both_hold (is_empty_type (slice_get (funcs_of m) f)) word.Start [] (ap is_empty_type h) refl)
+    (lt_to f (length (func_types_of m)) (let w = slice_get_within (funcs_of m) f _ h in let l = length-map (func_types_of m) (type_at m.types) in omega (arith, w, l)))
+    (both_hold (is_empty_type (slice_get (funcs_of m) f)) word.Start [] (ap is_empty_type h) refl)
 
 -- what is given before an entry that gives something
 given_before : {X Y : Type 0} (f : X → Option Y) (xs : List X) (n : ℕ) (x : X) → slice_get xs n ≡ Some x → is_some (f x) ≡ true → suc (length (filter_map f (take n xs))) ≤ length (filter_map f xs)
@@ -286,14 +286,14 @@ given_before f [] n x h e = cc
 given_before {X} {Y} f (y ∷ xs) zero x h e =
     let same : y ≡ x = cc in some_first (f y) (ap (λ z. is_some (f z)) same ∙ e)
   where
-  some_first : (o : Option Y) → is_some o ≡ true → 1 ≤ length (cons_option o (filter_map f xs))
-  some_first None e = cc
-  some_first (Some z) e = omega arith
+    some_first : (o : Option Y) → is_some o ≡ true → 1 ≤ length (cons_option o (filter_map f xs))
+    some_first None e = cc
+    some_first (Some z) e = omega arith
 given_before {X} {Y} f (y ∷ xs) (suc n) x h e = with_first (f y) (given_before f xs n x h e)
   where
-  with_first : (o : Option Y) → suc (length (filter_map f (take n xs))) ≤ length (filter_map f xs) → suc (length (cons_option o (filter_map f (take n xs)))) ≤ length (cons_option o (filter_map f xs))
-  with_first None less = less
-  with_first (Some z) less = omega (arith, less)
+    with_first : (o : Option Y) → suc (length (filter_map f (take n xs))) ≤ length (filter_map f xs) → suc (length (cons_option o (filter_map f (take n xs)))) ≤ length (cons_option o (filter_map f xs))
+    with_first None less = less
+    with_first (Some z) less = omega (arith, less)
 
 first_import : {Y : Type 0} (f : Import → Option Y) (is : List Import) (more : List Y) (n : ℕ) (i : Import) → length (filter_map f is ++ more) ≤ 1 → slice_get is n ≡ Some i → is_some (f i) ≡ true →
     nat_eq (length (filter_map f (take n is))) 0 ≡ true
@@ -310,16 +310,16 @@ parts_none m h =
     record {
       types = none_from (λ n. type_fault) TypeValid m.types (λ n. type_none) h.types;
       imports = λ n i there.
-        let V : Import → Type 0 = λ j. ImportValid m.types j.kind in
-        row_none m.types _ _ i.kind (subst V (get_or_from_slice_get m.imports n i i there) (h.imports n i (slice_get_within m.imports n i there)))
+          let V : Import → Type 0 = λ j. ImportValid m.types j.kind in
+          row_none m.types _ _ i.kind (subst V (get_or_from_slice_get m.imports n i i there) (h.imports n i (slice_get_within m.imports n i there)))
           (λ some. first_import (λ (j : Import). table_import j.kind) m.imports m.tables n i h.one_table there some)
           (λ some. first_import (λ (j : Import). memory_import j.kind) m.imports m.memories n i h.one_memory there some);
       funcs = none_from (λ n. func_fault m) (λ (f : Func). f.ty < length m.types) m.funcs (λ n. func_none m) h.funcs;
       tables = λ n l there.
-        table_none _ l (to_zero_sum (filter_map (λ (j : Import). table_import j.kind) m.imports) m.tables n h.one_table (slice_get_within m.tables n l there))
+          table_none _ l (to_zero_sum (filter_map (λ (j : Import). table_import j.kind) m.imports) m.tables n h.one_table (slice_get_within m.tables n l there))
           (subst TableValid (get_or_from_slice_get m.tables n l l there) (h.tables n l (slice_get_within m.tables n l there)));
       memories = λ n l there.
-        memory_none _ l (to_zero_sum (filter_map (λ (j : Import). memory_import j.kind) m.imports) m.memories n h.one_memory (slice_get_within m.memories n l there))
+          memory_none _ l (to_zero_sum (filter_map (λ (j : Import). memory_import j.kind) m.imports) m.memories n h.one_memory (slice_get_within m.memories n l there))
           (subst MemoryValid (get_or_from_slice_get m.memories n l l there) (h.memories n l (slice_get_within m.memories n l there)));
       globals = none_from (λ n. global_fault m) (GlobalValid m) m.globals (λ n. global_none m) h.globals;
       exports = export_none m h.exports h.names;
@@ -334,15 +334,15 @@ parts_none m h =
 no_first : {X : Type 0} (fault : ℕ → X → Option ValidWord) (xs : List X) (places : List ℕ) (at : ℕ) (w : ValidWord) → FirstFault fault xs places at w → NoFault fault xs → ⊥
 no_first fault xs places at w f none = never w (sym (none f.entry f.item f.there) ∙ f.here)
   where
-  never : (w : ValidWord) → None ≡ Some w → ⊥
-  never w e = cc
+    never : (w : ValidWord) → None ≡ Some w → ⊥
+    never w e = cc
 
 no_start : (m : Module) (o : Option ℕ) (place at : ℕ) (w : ValidWord) → StartFault m o place at w → IfSome o (λ f. start_fault m f ≡ None) → ⊥
 no_start m None place at w f none = f
 no_start m (Some s) place at w f none = never w (sym none ∙ f.0)
   where
-  never : (w : ValidWord) → None ≡ Some w → ⊥
-  never w e = cc
+    never : (w : ValidWord) → None ≡ Some w → ⊥
+    never w e = cc
 
 no_code : (m : Module) (code : List (List ℕ)) (at : ℕ) (w : ValidWord) → CodeFault m code at w → BodiesValid m → ⊥
 no_code m code at w f valid =
@@ -350,17 +350,47 @@ no_code m code at w f valid =
 
 pub refuted : (m : Module) (k : Marks) (at : ℕ) (w : ValidWord) → InvalidAt m k at w → HasNoFault m → ⊥
 refuted m k at w i h =
-  elim i [ inl f ↦ no_first (λ n. type_fault) m.types k.types at w f h.types | inr i1 ↦
-  elim i1.1 [ inl f ↦ no_first (import_fault m) m.imports k.imports at w f h.imports | inr i2 ↦
-  elim i2.1 [ inl f ↦ no_first (λ n. func_fault m) m.funcs k.funcs at w f h.funcs | inr i3 ↦
-  elim i3.1 [ inl f ↦ no_first (module_table_fault m) m.tables k.tables at w f h.tables | inr i4 ↦
-  elim i4.1 [ inl f ↦ no_first (module_memory_fault m) m.memories k.memories at w f h.memories | inr i5 ↦
-  elim i5.1 [ inl f ↦ no_first (λ n. global_fault m) m.globals k.globals at w f h.globals | inr i6 ↦
-  elim i6.1 [ inl f ↦ no_first (export_fault m) m.exports k.exports at w f h.exports | inr i7 ↦
-  elim i7.1 [ inl f ↦ no_start m m.start k.start at w f h.start | inr i8 ↦
-  elim i8.1 [ inl f ↦ no_first (λ n. elem_fault m) m.elems k.elems at w f h.elems | inr i9 ↦
-  elim i9.1 [ inl f ↦ no_code m k.code at w f h.bodies | inr i10 ↦
-  no_first (λ n. segment_fault m) m.segments k.segments at w i10.1 h.segments ] ] ] ] ] ] ] ] ] ]
+    elim i [
+      | inl f ↦ no_first (λ n. type_fault) m.types k.types at w f h.types
+      | inr i1 ↦
+          elim i1.1 [
+            | inl f ↦ no_first (import_fault m) m.imports k.imports at w f h.imports
+            | inr i2 ↦
+                elim i2.1 [
+                  | inl f ↦ no_first (λ n. func_fault m) m.funcs k.funcs at w f h.funcs
+                  | inr i3 ↦
+                      elim i3.1 [
+                        | inl f ↦ no_first (module_table_fault m) m.tables k.tables at w f h.tables
+                        | inr i4 ↦
+                            elim i4.1 [
+                              | inl f ↦ no_first (module_memory_fault m) m.memories k.memories at w f h.memories
+                              | inr i5 ↦
+                                  elim i5.1 [
+                                    | inl f ↦ no_first (λ n. global_fault m) m.globals k.globals at w f h.globals
+                                    | inr i6 ↦
+                                        elim i6.1 [
+                                          | inl f ↦ no_first (export_fault m) m.exports k.exports at w f h.exports
+                                          | inr i7 ↦
+                                              elim i7.1 [
+                                                | inl f ↦ no_start m m.start k.start at w f h.start
+                                                | inr i8 ↦
+                                                    elim i8.1 [
+                                                      | inl f ↦ no_first (λ n. elem_fault m) m.elems k.elems at w f h.elems
+                                                      | inr i9 ↦
+                                                          elim i9.1 [
+                                                            | inl f ↦ no_code m k.code at w f h.bodies
+                                                            | inr i10 ↦
+                                                                no_first (λ n. segment_fault m) m.segments k.segments at w i10.1 h.segments
+                                                          ]
+                                                    ]
+                                              ]
+                                        ]
+                                  ]
+                            ]
+                      ]
+                ]
+          ]
+    ]
 
 pub refusal : {A : Type 0} (m : Module) (k : Marks) (e : ValidFault) (holds : A → Type 0) → Answers {A = Unit {0}} (λ done. HasNoFault m) (InvalidAt m k) (Err e) →
     Answers holds (λ at w. InvalidAt m k at w × (PartsValid m → ⊥)) (Err e)

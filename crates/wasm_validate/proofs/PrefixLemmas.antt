@@ -1,5 +1,5 @@
 -- A body with a typing has one through each of its items.
-use Rattle.std.proofs.Common.{◌≡◌, ℕ, ◌+◌, ◌-◌, ◌<◌, ◌≤◌, zero, suc, Bool, true, false, List, [], ◌∷◌, ◌++◌, length, reverse, take, drop, slice_get, get_or, Option, Some, None, if◌then◌else◌, refl, sym, ap, ◌∙◌, subst, arith}
+use Rattle.std.proofs.Common.{◌≡◌, ℕ, ◌+◌, ◌-◌, ◌<◌, zero, suc, Bool, true, false, List, [], ◌∷◌, length, drop, slice_get, get_or, Option, Some, None, if◌then◌else◌, refl, sym, ap, ◌∙◌, subst, arith}
 use Rattle.std.specs.Option.{option_and_then}
 use Rattle.std.proofs.lemmas.Option.{slice_get-get_or}
 use Rattle.wasm_values.specs.declared.number.ValType.{ValType}
@@ -11,7 +11,7 @@ use Rattle.wasm_syntax.specs.declared.flat.Head.{Head}
 use Rattle.wasm_syntax.specs.declared.flat.Head.TheVariants as head
 use Rattle.wasm_syntax.specs.FlatForm.{is_simple, flat_body}
 use Rattle.wasm_syntax.specs.Sides.{Side, ToEnd, ToElse, after, read_item, read, sides_in, sides_from}
-use Rattle.wasm_syntax.specs.Parts.{Part, own, begun, with_instr, turned, closed_part, instr_of}
+use Rattle.wasm_syntax.specs.Parts.{Part, begun, with_instr, closed_part, instr_of}
 use Rattle.wasm_syntax.specs.Trees.{sequence_of}
 use Rattle.wasm_syntax.proofs.SideLemmas.{read-flat_body}
 use Rattle.wasm_syntax.proofs.RestLaws.{live}
@@ -73,9 +73,9 @@ unfolding read_item
 read_one i [] ss e = absurd (none_some ss e)
 read_one i (s ∷ outer) ss e = by_test (is_simple i) e
   where
-  by_test : (b : Bool) → (if b then Some (after (i ∷ []) s ∷ outer) else None) ≡ Some ss → ReadOne i ss (s ∷ outer)
-  by_test true e = record { side = s; outer = outer; was = refl; now = sym (some_same _ ss e) }
-  by_test false e = absurd (none_some ss e)
+    by_test : (b : Bool) → (if b then Some (after (i ∷ []) s ∷ outer) else None) ≡ Some ss → ReadOne i ss (s ∷ outer)
+    by_test true e = record { side = s; outer = outer; was = refl; now = sym (some_same _ ss e) }
+    by_test false e = absurd (none_some ss e)
 
 same_suits : (i : Instr) (p : Part) (s : Side) → Suits p (after (i ∷ []) s) → Suits p s
 same_suits i p (ToEnd is) h = h
@@ -148,9 +148,9 @@ at_end left ss e p ps h = let M : List Side → Type 0 = λ xs. Match (p ∷ ps)
 match_end : (left ss : List Side) → read_item flat.End left ≡ Some ss → (p q : Part) (ps : List Part) → Match (p ∷ q ∷ ps) ss → Match (then_inner (p ∷ q ∷ ps) flat.End) left
 match_end left ss e p q ps h = push_closed left (at_end left ss e p (q ∷ ps) h).2
   where
-  push_closed : (left : List Side) → Match (q ∷ ps) left → Match (with_instr (closed_part p) q ∷ ps) left
-  push_closed [] h = h
-  push_closed (s ∷ outer) h = (with_one (closed_part p) q s h.0, h.1, h.2)
+    push_closed : (left : List Side) → Match (q ∷ ps) left → Match (with_instr (closed_part p) q ∷ ps) left
+    push_closed [] h = h
+    push_closed (s ∷ outer) h = (with_one (closed_part p) q s h.0, h.1, h.2)
 
 -- ---- back from behind an item
 
@@ -172,16 +172,18 @@ back_end_at c hd first is q ps s t =
     let L = labels_of c (q ∷ ps) in
     let r = snoc_to c L q.instrs (instr_of (Some hd) first is) [] t.0.0 t.0.1 in
     let u = parted c L hd first is r.0 t.0.0 r.2 in
-    let S : Types → Type 0 = λ m. SequenceTyped c L (sequence_of q.instrs) [] m in
-    ((part_results c (Some hd), u.side), sides_typed c L hd first is r.0 t.0.0 s u,
-     ((u.turns.0, subst S (u.turns.1 ∙ before_taken hd u.turns.0) r.1), t.1, t.2))
+    let S : Types → Type 0 = λ m. SequenceTyped c L (sequence_of q.instrs) [] m in (
+      (part_results c (Some hd), u.side),
+      sides_typed c L hd first is r.0 t.0.0 s u,
+      ((u.turns.0, subst S (u.turns.1 ∙ before_taken hd u.turns.0) r.1), t.1, t.2),
+    )
 
 back_end : (c : Context) (h : Option Head) (p q : Part) (ps : List Part) → p.head ≡ h → IsSided p.head p.first → IsInner p.head (q ∷ ps) →
     PartsTyped c None (with_instr (closed_part p) q ∷ ps) → PartsTyped c None (p ∷ q ∷ ps)
 back_end c None p q ps e s i t = absurd (no_cons (let M : Option Head → Type 0 = λ h. IsInner h (q ∷ ps) in subst M e i))
   where
-  no_cons : q ∷ ps ≡ [] → ⊥
-  no_cons e = cc
+    no_cons : q ∷ ps ≡ [] → ⊥
+    no_cons e = cc
 back_end c (Some hd) p q ps e s i t =
     let same = as_part p hd e in
     let S : Part → Type 0 = λ r. IsSided r.head r.first in
@@ -239,9 +241,9 @@ reads_item : (x : Flat) (xs : List Flat) (ss : List Side) → read (x ∷ xs) �
 unfolding read
 reads_item x xs ss e = by_rest (read xs) refl e
   where
-  by_rest : (o : Option (List Side)) → read xs ≡ o → option_and_then (read_item x) o ≡ Some ss → ReadsItem x xs ss
-  by_rest None w e = absurd (none_some ss e)
-  by_rest (Some left) w e = record { left = left; rest = w; item = e }
+    by_rest : (o : Option (List Side)) → read xs ≡ o → option_and_then (read_item x) o ≡ Some ss → ReadsItem x xs ss
+    by_rest None w e = absurd (none_some ss e)
+    by_rest (Some left) w e = record { left = left; rest = w; item = e }
 
 -- at an item, what is left before and behind it
 record ReadsAt (xs : List Flat) (n : ℕ) (x : Flat) (ss : List Side) : Type 0 where
@@ -289,8 +291,8 @@ suits_at body (suc n) h =
     let (x, there) = item_at (flat_body body) n (omega (arith, h)) in
     let r = reads_at (flat_body body) n x before.sides there before.read_is in
     let next = forth x r.left before.sides r.item (parts_before body n) before.match
-                 (match_some (parts_before body n) before.sides before.match (some_parts body n before.sides (omega (arith, h)) before.read_is))
-                 (some_parts body (suc n) r.left h r.rest) in
+    (match_some (parts_before body n) before.sides before.match (some_parts body n before.sides (omega (arith, h)) before.read_is))
+    (some_parts body (suc n) r.left h r.rest) in
     let M : List Part → Type 0 = λ ps. Match ps r.left in
     let z : suc n ≡ n + 1 = omega arith in
     let same : parts_before body (suc n) ≡ then_inner (parts_before body n) x = ap (parts_before body) z ∙ next_parts body n x there in
@@ -318,12 +320,13 @@ back_all c body (suc k) n h t =
 
 -- a body with a typing has one through each of its items
 pub typed_through : (c : Context) (body : List Instr) (n : ℕ) → n < length (flat_body body) → BodyTyped c (sequence_of body) → TypedThrough c body n
-typed_through c body n h t =
-    (λ less.
-       let last = length (flat_body body) - 1 in
-       let M : List Part → Type 0 = λ ps. PartsTyped c None ps in
-       let N : ℕ → Type 0 = λ j. PartsTyped c None (parts_before body j) in
-       let whole : PartsTyped c None (parts_before body last) = subst M (sym (whole_parts body last (omega (arith, less)))) ((c.results, t), tt, tt) in
-       let e : last ≡ (n + 1) + (last - (n + 1)) = omega (arith, less) in
-       back_all c body (last - (n + 1)) (n + 1) (omega (arith, less, e)) (subst N e whole),
-     λ e. t)
+typed_through c body n h t = (
+  λ less.
+      let last = length (flat_body body) - 1 in
+      let M : List Part → Type 0 = λ ps. PartsTyped c None ps in
+      let N : ℕ → Type 0 = λ j. PartsTyped c None (parts_before body j) in
+      let whole : PartsTyped c None (parts_before body last) = subst M (sym (whole_parts body last (omega (arith, less)))) ((c.results, t), tt, tt) in
+      let e : last ≡ (n + 1) + (last - (n + 1)) = omega (arith, less) in
+      back_all c body (last - (n + 1)) (n + 1) (omega (arith, less, e)) (subst N e whole),
+  λ e. t,
+)

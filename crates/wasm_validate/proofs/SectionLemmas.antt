@@ -30,8 +30,8 @@ none_more fault xs n y none there here k x h e =
       | inr same ↦ ap (λ j. fault j x) same ∙ ap (fault n) (sym (same_entry xs k n x y same e there)) ∙ here
     ]
   where
-  at_or_before : (k n : ℕ) → k < n + 1 → (k < n) ⊎ (k ≡ n)
-  at_or_before k n h = grind arith
+    at_or_before : (k n : ℕ) → k < n + 1 → (k < n) ⊎ (k ≡ n)
+    at_or_before k n h = grind arith
 
 pub none_at_all : {X : Type 0} (fault : ℕ → X → Option ValidWord) (xs : List X) (n : ℕ) → length xs ≤ n →
     NoneBefore fault xs n → NoFault fault xs
@@ -42,7 +42,11 @@ pub first_fault : {X : Type 0} (fault : ℕ → X → Option ValidWord) (xs : Li
     FirstFault fault xs places (get_or places n 0) w
 first_fault fault xs places n y w none there here same =
     record {
-      entry = n; item = y; there = there; before = none; here = here;
+      entry = n;
+      item = y;
+      there = there;
+      before = none;
+      here = here;
       place = slice_get-get_or places n 0 (let i = slice_get_within xs n y there in omega (arith, i, same));
     }
 
@@ -77,11 +81,11 @@ counted_more {X} {Y} f xs n y o within read e =
     length-append (filter_map f (take n xs)) (filter_map f (get_or xs n y ∷ [])) ∙
     ap (λ k. length (filter_map f (take n xs)) + k) (ap (λ x. length (filter_map f (x ∷ []))) (sym read) ∙ one_of (f y) o e)
   where
-  one_of : (p o : Option Y) → p ≡ o → length (cons_option p []) ≡ (if is_some o then 1 else 0)
-  one_of None None e = refl
-  one_of None (Some x) e = cc
-  one_of (Some x) None e = cc
-  one_of (Some x) (Some z) e = refl
+    one_of : (p o : Option Y) → p ≡ o → length (cons_option p []) ≡ (if is_some o then 1 else 0)
+    one_of None None e = refl
+    one_of None (Some x) e = cc
+    one_of (Some x) None e = cc
+    one_of (Some x) (Some z) e = refl
 
 pub counted_read : {X Y : Type 0} (f : X → Option Y) (xs ys : List X) (n : ℕ) (y : X) (count more : ℕ) → ys ≡ xs → n < length ys → y ≡ get_or ys n y →
     count ≡ length (filter_map f (take n xs)) → more ≡ (if is_some (f y) then 1 else 0) → count + more ≡ length (filter_map f (take (n + 1) xs))
@@ -117,9 +121,10 @@ pub name_added : (keys new : List (Bor (List ℕ))) (name : Bor (List ℕ)) (r :
     r ≡ not (list_any (λ (k : Bor (List ℕ)). bytes_eq name.now k.now) keys) →
     new ≡ (if list_any (λ (k : Bor (List ℕ)). bytes_eq name.now k.now) keys then keys else keys ++ name ∷ []) →
     (r ≡ not (list_any (bytes_eq name.now) (texts_of keys))) × (r ≡ true → texts_of new ≡ texts_of keys ++ name.now ∷ [])
-name_added keys new name r was made =
-    (was ∙ ap not (any_text name.now keys),
-     λ h. added_key (list_any (λ (k : Bor (List ℕ)). bytes_eq name.now k.now) keys) keys new name (sym was ∙ h) made)
+name_added keys new name r was made = (
+  was ∙ ap not (any_text name.now keys),
+  λ h. added_key (list_any (λ (k : Bor (List ℕ)). bytes_eq name.now k.now) keys) keys new name (sym was ∙ h) made,
+)
 
 -- the names up to one more
 pub names_more : {X : Type 0} (f : X → List ℕ) (xs ys : List X) (n : ℕ) (y : X) (names more : List (List ℕ)) → ys ≡ xs → n < length ys → y ≡ get_or ys n y →

@@ -1,29 +1,21 @@
 -- Entries without faults are valid, and valid entries have no faults.
-use Rattle.std.proofs.Common.{◌≡◌, ℕ, ◌+◌, ◌-◌, ◌<◌, ◌≤◌, zero, suc, Bool, true, false, ◌&&◌, ◌==◌, not, nat_eq, nat_lt, nat_le, List, [], ◌∷◌, ◌++◌, length, map, take, drop, reverse, slice_get, get_or, Option, Some, None, refl, sym, ap, ◌∙◌, subst, arith, ◌⊎◌, inl, inr, IfSome, take-append-drop}
-use Rattle.std.specs.List.{filter_map, cons_option, All, list_any, list_all, IsDistinct, AllByRecursion}
+use Rattle.std.proofs.Common.{◌≡◌, ℕ, ◌+◌, ◌<◌, ◌≤◌, zero, suc, Bool, true, false, ◌&&◌, nat_eq, nat_lt, nat_le, List, [], ◌∷◌, length, map, take, slice_get, get_or, Option, Some, None, refl, sym, ap, ◌∙◌, subst, arith, IfSome}
+use Rattle.std.specs.List.{filter_map, cons_option, All}
 use Rattle.std.specs.Option.{is_some}
-use Rattle.std.proofs.lemmas.List.{length-append, take_more}
+use Rattle.std.proofs.lemmas.List.{length-append}
 use Rattle.std.proofs.lemmas.List.Elements.{All-append}
 use Rattle.std.proofs.lemmas.Option.{slice_get-get_or, slice_get_within, get_or_from_slice_get}
-use Rattle.wasm_values.specs.declared.number.ValType.{ValType}
-use Rattle.wasm_values.specs.declared.number.ValType.TheVariants.{I32, I64}
 use Rattle.wasm_syntax.specs.declared.module.FuncType.{FuncType}
 use Rattle.wasm_syntax.specs.declared.module.Limits.{Limits}
 use Rattle.wasm_syntax.specs.declared.module.Import.{Import}
 use Rattle.wasm_syntax.specs.declared.module.ImportKind.{ImportKind}
 use Rattle.wasm_syntax.specs.declared.module.ImportKind.TheVariants as import
-use Rattle.wasm_syntax.specs.declared.module.Export.{Export}
-use Rattle.wasm_syntax.specs.declared.module.ExportKind.{ExportKind}
-use Rattle.wasm_syntax.specs.declared.module.ExportKind.TheVariants as export
-use Rattle.wasm_syntax.specs.declared.module.Global.{Global}
 use Rattle.wasm_syntax.specs.declared.module.Func.{Func}
-use Rattle.wasm_syntax.specs.declared.module.Elem.{Elem}
-use Rattle.wasm_syntax.specs.declared.module.Segment.{Segment}
 use Rattle.wasm_syntax.specs.declared.module.Module.{Module}
 use Rattle.wasm_validate.specs.declared.fault.ValidWord.{ValidWord}
 use Rattle.wasm_validate.specs.declared.fault.ValidWord.TheVariants as word
-use Rattle.wasm_validate.specs.Valid.{func_import, table_import, memory_import, func_types_of, tables_of, memories_of, TypeValid, TableValid, MemoryValid, ImportValid}
-use Rattle.wasm_validate.specs.Faults.{condition, first_failing, type_fault, table_fault, memory_fault, import_row, import_fault, func_fault, module_table_fault, module_memory_fault, is_at_most, is_within, are_pages, NoFault}
+use Rattle.wasm_validate.specs.Valid.{func_import, table_import, memory_import, tables_of, memories_of, TypeValid, TableValid, MemoryValid, ImportValid}
+use Rattle.wasm_validate.specs.Faults.{condition, type_fault, table_fault, memory_fault, import_row, import_fault, func_fault, module_table_fault, module_memory_fault, is_at_most, is_within, are_pages, NoFault}
 use Rattle.wasm_validate.specs.Answers.{HasTypes}
 use Rattle.wasm_validate.proofs.ActLemmas.{first_holds, rest_holds, both_hold, lt_from, lt_to, le_from, le_to}
 
@@ -78,31 +70,33 @@ pages_from l h =
     let b = and_right (is_at_most l.min l.max) (nat_le l.min 65536 && is_within l.max 65536) h in
     (le_from l.min 65536 (and_left (nat_le l.min 65536) (is_within l.max 65536) b), both l.max a (and_right (nat_le l.min 65536) (is_within l.max 65536) b))
   where
-  both : (o : Option ℕ) → is_at_most l.min o ≡ true → is_within o 65536 ≡ true → IfSome o (λ max. (l.min ≤ max) × (max ≤ 65536))
-  both None a b = tt
-  both (Some max) a b = (le_from l.min max a, le_from max 65536 b)
+    both : (o : Option ℕ) → is_at_most l.min o ≡ true → is_within o 65536 ≡ true → IfSome o (λ max. (l.min ≤ max) × (max ≤ 65536))
+    both None a b = tt
+    both (Some max) a b = (le_from l.min max a, le_from max 65536 b)
 
 pages_to : (l : Limits) → MemoryValid l → are_pages l ≡ true
 pages_to l h =
     let (a, b) = both l.max h.1 in
     and_both (is_at_most l.min l.max) (nat_le l.min 65536 && is_within l.max 65536) a (and_both (nat_le l.min 65536) (is_within l.max 65536) (le_to l.min 65536 h.0) b)
   where
-  both : (o : Option ℕ) → IfSome o (λ max. (l.min ≤ max) × (max ≤ 65536)) → (is_at_most l.min o ≡ true) × (is_within o 65536 ≡ true)
-  both None a = (refl, refl)
-  both (Some max) a = (le_to l.min max a.0, le_to max 65536 a.1)
+    both : (o : Option ℕ) → IfSome o (λ max. (l.min ≤ max) × (max ≤ 65536)) → (is_at_most l.min o ≡ true) × (is_within o 65536 ≡ true)
+    both None a = (refl, refl)
+    both (Some max) a = (le_to l.min max a.0, le_to max 65536 a.1)
 
 pub table_valid : (first : Bool) (l : Limits) → table_fault first l ≡ None → (first ≡ true) × TableValid l
-table_valid first l h =
-    (first_holds first word.Count (condition (is_at_most l.min l.max) word.Limits ∷ []) h,
-     at_most_from l.min l.max (first_holds (is_at_most l.min l.max) word.Limits [] (rest_holds first word.Count (condition (is_at_most l.min l.max) word.Limits ∷ []) h)))
+table_valid first l h = (
+  first_holds first word.Count (condition (is_at_most l.min l.max) word.Limits ∷ []) h,
+  at_most_from l.min l.max (first_holds (is_at_most l.min l.max) word.Limits [] (rest_holds first word.Count (condition (is_at_most l.min l.max) word.Limits ∷ []) h)),
+)
 
 pub table_none : (first : Bool) (l : Limits) → first ≡ true → TableValid l → table_fault first l ≡ None
 table_none first l e h = both_hold first word.Count (condition (is_at_most l.min l.max) word.Limits ∷ []) e (both_hold (is_at_most l.min l.max) word.Limits [] (at_most_to l.min l.max h) refl)
 
 pub memory_valid : (first : Bool) (l : Limits) → memory_fault first l ≡ None → (first ≡ true) × MemoryValid l
-memory_valid first l h =
-    (first_holds first word.Count (condition (are_pages l) word.Limits ∷ []) h,
-     pages_from l (first_holds (are_pages l) word.Limits [] (rest_holds first word.Count (condition (are_pages l) word.Limits ∷ []) h)))
+memory_valid first l h = (
+  first_holds first word.Count (condition (are_pages l) word.Limits ∷ []) h,
+  pages_from l (first_holds (are_pages l) word.Limits [] (rest_holds first word.Count (condition (are_pages l) word.Limits ∷ []) h)),
+)
 
 pub memory_none : (first : Bool) (l : Limits) → first ≡ true → MemoryValid l → memory_fault first l ≡ None
 memory_none first l e h = both_hold first word.Count (condition (are_pages l) word.Limits ∷ []) e (both_hold (are_pages l) word.Limits [] (pages_to l h) refl)
@@ -140,9 +134,9 @@ none_given : {X Y : Type 0} (f : X → Option Y) (xs : List X) → ((n : ℕ) (x
 none_given f [] h = refl
 none_given {X} {Y} f (x ∷ xs) h = skipped (f x) (h 0 x refl) ∙ none_given f xs (λ n y e. h (suc n) y e)
   where
-  skipped : (o : Option Y) → is_some o ≡ false → length (cons_option o (filter_map f xs)) ≡ length (filter_map f xs)
-  skipped None e = refl
-  skipped (Some y) e = cc
+    skipped : (o : Option Y) → is_some o ≡ false → length (cons_option o (filter_map f xs)) ≡ length (filter_map f xs)
+    skipped None e = refl
+    skipped (Some y) e = cc
 
 is_zero : (n : ℕ) → nat_eq n 0 ≡ true → n ≡ 0
 is_zero n h = grind arith
@@ -155,24 +149,26 @@ one_given : {X Y : Type 0} (f : X → Option Y) (xs : List X) →
 one_given f [] h = omega arith
 one_given {X} {Y} f (x ∷ xs) h = by_first (f x) refl (λ g. one_given f xs g)
   where
-  at_first : (o : Option Y) → f x ≡ o → (k : ℕ) → length (filter_map f (take (suc k) (x ∷ xs))) ≡ length (cons_option o (filter_map f (take k xs)))
-  at_first o e k = ap (λ p. length (cons_option p (filter_map f (take k xs)))) e
-  later : (b : Bool) (z : X) (n : ℕ) → is_some (f z) ≡ b → slice_get xs n ≡ Some z → (y : Y) → f x ≡ Some y → b ≡ false
-  later false z n s e y first = refl
-  later true z n s e y first =
-      let none = h (suc n) z e s in
-      let some = at_first (Some y) first n in
-      absurd (omega (arith, none, some))
-  by_first : (o : Option Y) → f x ≡ o → (((n : ℕ) (z : X) → slice_get xs n ≡ Some z → is_some (f z) ≡ true → length (filter_map f (take n xs)) ≡ 0) → length (filter_map f xs) ≤ 1) →
-      length (cons_option (f x) (filter_map f xs)) ≤ 1
-  by_first None e ih =
-      let rest = ih (λ n z there some. sym (at_first None e n) ∙ h (suc n) z there some) in
-      let same : length (cons_option (f x) (filter_map f xs)) ≡ length (filter_map f xs) = ap (λ p. length (cons_option p (filter_map f xs))) e in
-      omega (arith, rest, same)
-  by_first (Some y) e ih =
-      let none = none_given f xs (λ n z there. later (is_some (f z)) z n refl there y e) in
-      let same : length (cons_option (f x) (filter_map f xs)) ≡ suc (length (filter_map f xs)) = ap (λ p. length (cons_option p (filter_map f xs))) e in
-      omega (arith, none, same)
+    at_first : (o : Option Y) → f x ≡ o → (k : ℕ) → length (filter_map f (take (suc k) (x ∷ xs))) ≡ length (cons_option o (filter_map f (take k xs)))
+    at_first o e k = ap (λ p. length (cons_option p (filter_map f (take k xs)))) e
+
+    later : (b : Bool) (z : X) (n : ℕ) → is_some (f z) ≡ b → slice_get xs n ≡ Some z → (y : Y) → f x ≡ Some y → b ≡ false
+    later false z n s e y first = refl
+    later true z n s e y first =
+        let none = h (suc n) z e s in
+        let some = at_first (Some y) first n in
+        absurd (omega (arith, none, some))
+
+    by_first : (o : Option Y) → f x ≡ o → (((n : ℕ) (z : X) → slice_get xs n ≡ Some z → is_some (f z) ≡ true → length (filter_map f (take n xs)) ≡ 0) → length (filter_map f xs) ≤ 1) →
+        length (cons_option (f x) (filter_map f xs)) ≤ 1
+    by_first None e ih =
+        let rest = ih (λ n z there some. sym (at_first None e n) ∙ h (suc n) z there some) in
+        let same : length (cons_option (f x) (filter_map f xs)) ≡ length (filter_map f xs) = ap (λ p. length (cons_option p (filter_map f xs))) e in
+        omega (arith, rest, same)
+    by_first (Some y) e ih =
+        let none = none_given f xs (λ n z there. later (is_some (f z)) z n refl there y e) in
+        let same : length (cons_option (f x) (filter_map f xs)) ≡ suc (length (filter_map f xs)) = ap (λ p. length (cons_option p (filter_map f xs))) e in
+        omega (arith, none, same)
 
 defined_few : {X : Type 0} (imported : ℕ) (xs : List X) → imported ≤ 1 → ((n : ℕ) (x : X) → slice_get xs n ≡ Some x → imported + n ≡ 0) → imported + length xs ≤ 1
 defined_few imported [] h none = omega (arith, h)
@@ -205,9 +201,9 @@ all_given : {X Y : Type 0} (f : X → Option Y) (P : Y → Type 0) (xs : List X)
 all_given f P [] h = λ k d less. absurd (omega (arith, less))
 all_given {X} {Y} f P (x ∷ xs) h = more (f x) refl (all_given f P xs (λ n z y e s. h (suc n) z y e s))
   where
-  more : (o : Option Y) → f x ≡ o → All P (filter_map f xs) → All P (cons_option o (filter_map f xs))
-  more None e all = all
-  more (Some y) e all = all_cons P y (filter_map f xs) (h 0 x y refl e) all
+    more : (o : Option Y) → f x ≡ o → All P (filter_map f xs) → All P (cons_option o (filter_map f xs))
+    more None e all = all
+    more (Some y) e all = all_cons P y (filter_map f xs) (h 0 x y refl e) all
 
 all_mapped : {X Y : Type 0} (f : X → Y) (P : Y → Type 0) (xs : List X) → ((n : ℕ) (x : X) → slice_get xs n ≡ Some x → P (f x)) → All P (map f xs)
 all_mapped f P [] h = λ k d less. absurd (omega (arith, less))
@@ -226,7 +222,7 @@ has_types m types imports funcs =
     record {
       few = all_from (λ n. type_fault) TypeValid m.types (λ n. type_valid) types;
       known = All-append P (filter_map f m.imports) (map (λ (g : Func). g.ty) m.funcs)
-                (all_given f P m.imports (λ n x t there is. row_func m.types _ _ x.kind t (imports n x there) is))
-                (all_mapped (λ (g : Func). g.ty) P m.funcs (λ n g there. func_valid m g (funcs n g there)));
+          (all_given f P m.imports (λ n x t there is. row_func m.types _ _ x.kind t (imports n x there) is))
+          (all_mapped (λ (g : Func). g.ty) P m.funcs (λ n g there. func_valid m g (funcs n g there)));
       own = all_from (λ n. func_fault m) (λ (g : Func). g.ty < length m.types) m.funcs (λ n. func_valid m) funcs;
     }

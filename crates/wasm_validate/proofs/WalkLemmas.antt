@@ -1,26 +1,23 @@
 -- A walk over a body, item by item.
-use Rattle.std.proofs.Common.{◌≡◌, ℕ, ◌+◌, ◌<◌, ◌≤◌, Bool, true, false, List, [], ◌∷◌, ◌++◌, length, reverse, take, slice_get, Option, Some, None, refl, sym, ap, ◌∙◌, subst, append_assoc, arith}
+use Rattle.std.proofs.Common.{◌≡◌, Bool, true, false, List, [], ◌∷◌, ◌++◌, reverse, Option, Some, None, refl, sym, ap, ◌∙◌, subst, append_assoc}
 use Rattle.std.specs.Option.{is_some}
 use Rattle.std.proofs.lemmas.List.{reverse-append, reverse-reverse}
-use Rattle.wasm_values.specs.declared.number.ValType.{ValType}
-use Rattle.wasm_values.specs.declared.number.ValType.TheVariants.{I32, I64}
+use Rattle.wasm_values.specs.declared.number.ValType.TheVariants.{I32}
 use Rattle.wasm_syntax.specs.declared.instr.Instr.{Instr}
-use Rattle.wasm_syntax.specs.declared.instr.Instr.TheVariants as instr
 use Rattle.wasm_syntax.specs.declared.flat.Flat.{Flat}
 use Rattle.wasm_syntax.specs.declared.flat.Flat.TheVariants as flat
 use Rattle.wasm_syntax.specs.declared.flat.Head.{Head}
 use Rattle.wasm_syntax.specs.declared.flat.Head.TheVariants as head
 use Rattle.wasm_syntax.specs.Trees.{instruction_of, sequence_of}
-use Rattle.wasm_syntax.specs.Parts.{Part, own, begun, with_instr, turned, instr_of, closed_part, with_last, closed, then_item, parts_of}
+use Rattle.wasm_syntax.specs.Parts.{Part, own, begun, with_instr, turned, instr_of, closed_part, with_last, closed, then_item}
 use Rattle.wasm_syntax.proofs.TreeLaws.{instruction_of-Block, instruction_of-Loop, instruction_of-If, instruction_of-IfElse}
 use Rattle.wasm_validate.specs.declared.operands.Operands.{Operands}
 use Rattle.wasm_validate.specs.declared.walk.Open.{Open}
-use Rattle.wasm_validate.specs.Typing.{Types, Context, types_of, Turns, InstructionTyped, SequenceTyped, BodyTyped}
+use Rattle.wasm_validate.specs.Typing.{Types, Context, Turns, InstructionTyped, SequenceTyped, BodyTyped}
 use Rattle.wasm_validate.specs.Open.{part_results, label_of, labels_of, before_part, FirstSideTyped, PartsTyped}
 use Rattle.wasm_validate.specs.Operands.{Are, Exactly, Advances, IsStuck, Gave}
-use Rattle.wasm_validate.specs.Walks.{then_inner, MayEnd, IsHere, IsAround, IsOpen}
+use Rattle.wasm_validate.specs.Walks.{then_inner, MayEnd, IsAround, IsOpen}
 use Rattle.wasm_validate.proofs.OperandLemmas.{are_some}
-use Rattle.wasm_validate.proofs.ActLemmas.{Same}
 
 -- ---- one more instruction of a sequence
 
@@ -55,11 +52,16 @@ pub one_more : (c : Context) (s n : Operands) (os : List Open) (p : Part) (aroun
     Advances (Are s) (Are n) (InstructionTyped c (labels_of c (p ∷ around)) (instruction_of i)) →
     IsOpen c None s os (p ∷ around) → IsOpen c None n os (with_instr i p ∷ around)
 one_more c s n os p around i a h =
-    let L = labels_of c (p ∷ around) in
-    (((λ ts q. let e = a.0 ts q in snoc_from c L p.instrs i [] e.0 ts (h.0.0.0 e.0 e.1) e.2,
-       λ ts t. let r = snoc_to c L p.instrs i [] ts t in a.1 r.0 ts (h.0.0.1 r.0 r.1) r.2),
-      h.0.1),
-     h.1)
+    let L = labels_of c (p ∷ around) in (
+      (
+        (
+          λ ts q. let e = a.0 ts q in snoc_from c L p.instrs i [] e.0 ts (h.0.0.0 e.0 e.1) e.2,
+          λ ts t. let r = snoc_to c L p.instrs i [] ts t in a.1 r.0 ts (h.0.0.1 r.0 r.1) r.2,
+        ),
+        h.0.1,
+      ),
+      h.1,
+    )
 
 pub one_stuck : (c : Context) (s : Operands) (os : List Open) (p : Part) (around : List Part) (i : Instr) →
     IsStuck (Are s) (InstructionTyped c (labels_of c (p ∷ around)) (instruction_of i)) →
@@ -75,10 +77,14 @@ opened hd t below = record { head = hd; turned = t; below = below }
 pub block_begins : (c : Context) (s below n : Operands) (os : List Open) (p : Part) (around : List Part) (hd : Head) →
     Exactly (Are below) (λ ts. Are s (before_part (Some hd) ts)) → Exactly (Are n) (λ ts. ts ≡ []) →
     IsOpen c None s os (p ∷ around) → IsOpen c None n (opened hd false below ∷ os) (begun hd ∷ p ∷ around)
-block_begins c s below n os p around hd e empty h =
-    (((λ ts a. sym (empty.0 ts a), λ ts t. empty.1 ts (sym t)), tt),
-     (refl, refl,
-      (((λ ts a. h.0.0.0 (before_part (Some hd) ts) (e.0 ts a), λ ts t. e.1 ts (h.0.0.1 (before_part (Some hd) ts) t)), h.0.1), h.1)))
+block_begins c s below n os p around hd e empty h = (
+  ((λ ts a. sym (empty.0 ts a), λ ts t. empty.1 ts (sym t)), tt),
+  (
+    refl,
+    refl,
+    (((λ ts a. h.0.0.0 (before_part (Some hd) ts) (e.0 ts a), λ ts t. e.1 ts (h.0.0.1 (before_part (Some hd) ts) t)), h.0.1), h.1),
+  ),
+)
 
 pub no_block : (c : Context) (s : Operands) (os : List Open) (p : Part) (around : List Part) (hd : Head) →
     ((ts : Types) → Are s (before_part (Some hd) ts) → ⊥) → IsOpen c None s os (p ∷ around) → PartsTyped c None (begun hd ∷ p ∷ around) → ⊥
@@ -160,19 +166,24 @@ block_ends_at c s n o os first is q ps a m g h =
     let i = instr_of (Some hd) first is in
     let M : Bool → Type 0 = λ b. MayEnd hd b in
     let typed = whole_typed c L hd first is (h.0.0.0 (part_results c (Some hd)) a) h.0.1 (subst M h.1.1 m) in
-    let below = h.1.2 in
-    (((λ ts r.
-         let e = g.0 ts r in
-         snoc_from c L q.instrs i [] (before_part (Some hd) e.0) ts (below.0.0.0 e.0 e.1) (typed (before_part (Some hd) e.0) ts (e.0, sym (before_taken hd e.0), e.2)),
-       λ ts t.
-         let r = snoc_to c L q.instrs i [] ts t in
-         let u = (parted c L hd first is r.0 ts r.2).turns in
-         let S : Types → Type 0 = λ m. SequenceTyped c L (sequence_of q.instrs) [] m in
-         let under = below.0.0.1 u.0 (subst S (u.1 ∙ before_taken hd u.0) r.1) in
-         let N : Types → Type 0 = λ outs. Are n outs in
-         subst N (sym u.2) (g.1 u.0 under)),
-      below.0.1),
-     below.1)
+    let below = h.1.2 in (
+      (
+        (
+          λ ts r.
+              let e = g.0 ts r in
+              snoc_from c L q.instrs i [] (before_part (Some hd) e.0) ts (below.0.0.0 e.0 e.1) (typed (before_part (Some hd) e.0) ts (e.0, sym (before_taken hd e.0), e.2)),
+          λ ts t.
+              let r = snoc_to c L q.instrs i [] ts t in
+              let u = (parted c L hd first is r.0 ts r.2).turns in
+              let S : Types → Type 0 = λ m. SequenceTyped c L (sequence_of q.instrs) [] m in
+              let under = below.0.0.1 u.0 (subst S (u.1 ∙ before_taken hd u.0) r.1) in
+              let N : Types → Type 0 = λ outs. Are n outs in
+              subst N (sym u.2) (g.1 u.0 under),
+        ),
+        below.0.1,
+      ),
+      below.1,
+    )
 
 pub block_ends : (c : Context) (s n : Operands) (o : Open) (os : List Open) (p q : Part) (ps : List Part) →
     Are s (part_results c (Some o.head)) → MayEnd o.head o.turned → Gave (Are o.below) (Are n) (part_results c (Some o.head)) →

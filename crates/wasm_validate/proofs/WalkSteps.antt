@@ -1,6 +1,6 @@
 -- The steps of a walk, as its parts are kept.
-use Rattle.std.proofs.Common.{◌≡◌, ℕ, ◌<◌, Bool, true, false, List, [], ◌∷◌, ◌++◌, length, reverse, map, Option, Some, None, Result, Ok, Err, IfOk, refl, sym, ap, ◌∙◌, subst, arith}
-use Rattle.std.specs.Option.{is_some, IsSome, option_to_list}
+use Rattle.std.proofs.Common.{◌≡◌, ◌<◌, true, false, List, [], ◌∷◌, ◌++◌, length, reverse, map, Option, Some, None, Result, Ok, Err, IfOk, sym, ap, ◌∙◌, subst, arith}
+use Rattle.std.specs.Option.{IsSome, option_to_list}
 use Rattle.std.proofs.lemmas.List.{reverse-append}
 use Rattle.wasm_values.specs.declared.error.OutOfMemory.{OutOfMemory}
 use Rattle.wasm_values.specs.declared.number.ValType.{ValType}
@@ -8,7 +8,7 @@ use Rattle.wasm_syntax.specs.declared.instr.Instr.{Instr}
 use Rattle.wasm_syntax.specs.declared.flat.Flat.{Flat}
 use Rattle.wasm_syntax.specs.declared.flat.Flat.TheVariants as flat
 use Rattle.wasm_syntax.specs.declared.flat.Head.{Head}
-use Rattle.wasm_syntax.specs.Parts.{Part, own, begun, with_instr, turned, closed_part}
+use Rattle.wasm_syntax.specs.Parts.{Part, begun, with_instr, turned, closed_part}
 use Rattle.wasm_syntax.specs.Trees.{instruction_of}
 use Rattle.wasm_validate.specs.declared.fault.ValidWord.{ValidWord}
 use Rattle.wasm_validate.specs.declared.operands.Operands.{Operands}
@@ -16,7 +16,7 @@ use Rattle.wasm_validate.specs.declared.walk.Open.{Open}
 use Rattle.wasm_validate.specs.declared.walk.Walk.{Walk}
 use Rattle.wasm_validate.specs.Typing.{Types, Context, types_of, InstructionTyped}
 use Rattle.wasm_validate.specs.Open.{part_results, label_of, labels_of, before_part, PartsTyped}
-use Rattle.wasm_validate.specs.Operands.{Are, Exactly, Advances, IsStuck, Gave}
+use Rattle.wasm_validate.specs.Operands.{Are, Exactly, Advances, Gave}
 use Rattle.wasm_validate.specs.Steps.{labels_in, Steps}
 use Rattle.wasm_validate.specs.Walks.{then_inner, MayEnd, IsOpen, IsAt, Walked}
 use Rattle.wasm_validate.proofs.WalkLemmas.{one_more, one_stuck, opened, block_begins, no_block, side_turns, own_turns, no_turn, block_ends, no_end}
@@ -126,7 +126,6 @@ ends_not c w o rest (p ∷ q ∷ ps) was never h t =
     no_end c w.operands o (reverse rest) p q ps never (subst M (last_open w.opens.items rest o was) h.open_) t
 
 -- ---- one instruction
-
 
 pub one_walked : (fault : Option ValidWord) (c : Context) (w n : Walk) (i : Instr) (ps : List Part) → n.opens.items ≡ w.opens.items → n.labels.items ≡ w.labels.items →
     Steps fault (Are w.operands) (Are n.operands) c (labels_in w.labels.items) i → IsAt c w ps → Walked fault c n ps (flat.One i)

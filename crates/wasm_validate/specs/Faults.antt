@@ -1,6 +1,6 @@
 -- The first fault of a module that isn't valid: sections in the order of their ids (Core Specification, section 5.5.2),
 -- entries and instructions in the order of the file, and of an entry or instruction the first of its conditions that fails.
-use Rattle.std.specs.Prelude.{◌≡◌, ℕ, ◌+◌, ◌<◌, ◌^◌, ◌⊎◌, Bool, true, false, ◌&&◌, not, nat_eq, nat_lt, nat_le, List, [], ◌∷◌, length, map, take, slice_get, is_some, Option, Some, None, IfSome, All, if◌then◌else◌}
+use Rattle.std.specs.Prelude.{◌≡◌, ℕ, ◌+◌, ◌<◌, ◌^◌, ◌⊎◌, Bool, true, false, ◌&&◌, not, nat_eq, nat_lt, nat_le, List, [], ◌∷◌, length, map, take, slice_get, is_some, Option, Some, None, IfSome, if◌then◌else◌}
 use Rattle.std.specs.List.{filter_map, list_any, list_all}
 use Rattle.std.specs.Option.{unwrap_or}
 use Rattle.std.specs.Str.{bytes_eq}
@@ -94,9 +94,9 @@ abbrev pub import_fault : Module → ℕ → Import → Option ValidWord
 import_fault m n i =
     let before = take n m.imports in
     import_row (length m.types)
-      (nat_eq (length (filter_map (λ (j : Import). table_import j.kind) before)) 0)
-      (nat_eq (length (filter_map (λ (j : Import). memory_import j.kind) before)) 0)
-      i.kind
+    (nat_eq (length (filter_map (λ (j : Import). table_import j.kind) before)) 0)
+    (nat_eq (length (filter_map (λ (j : Import). memory_import j.kind) before)) 0)
+    i.kind
 
 -- A function: `index` for an unknown type.
 abbrev pub func_fault : Module → Func → Option ValidWord
@@ -118,8 +118,8 @@ names_one m (export.Global g) = nat_lt g (length (globals_of m))
 abbrev pub export_row : Module → List (List ℕ) → Export → Option ValidWord
 export_row m names e =
     first_failing (
-      condition (names_one m e.kind) word.Index ∷
-      condition (not (list_any (bytes_eq e.name) names)) word.Export ∷ [])
+    condition (names_one m e.kind) word.Index ∷
+    condition (not (list_any (bytes_eq e.name) names)) word.Export ∷ [])
 
 -- The n-th export, after those before it.
 abbrev pub export_fault : Module → ℕ → Export → Option ValidWord
@@ -133,8 +133,8 @@ is_empty_type (Some ty) = nat_eq (length ty.params) 0 && nat_eq (length ty.resul
 abbrev pub start_fault : Module → ℕ → Option ValidWord
 start_fault m f =
     first_failing (
-      condition (nat_lt f (length (func_types_of m))) word.Index ∷
-      condition (is_empty_type (slice_get (funcs_of m) f)) word.Start ∷ [])
+    condition (nat_lt f (length (func_types_of m))) word.Index ∷
+    condition (is_empty_type (slice_get (funcs_of m) f)) word.Start ∷ [])
 
 -- An element segment: `index` where the table doesn't exist; `const` where the offset is no constant expression; `type`
 -- where that is no i32; `index` for an unknown function.
@@ -142,19 +142,19 @@ abbrev pub elem_fault : Module → Elem → Option ValidWord
 elem_fault m e =
     let ty = const_type (globals_of m) e.offset in
     first_failing (
-      condition (nat_lt e.table (length (tables_of m))) word.Index ∷
-      condition (is_some ty) word.Const ∷
-      condition (has_type ty I32) word.WrongType ∷
-      condition (list_all (λ f. nat_lt f (length (func_types_of m))) e.funcs) word.Index ∷ [])
+    condition (nat_lt e.table (length (tables_of m))) word.Index ∷
+    condition (is_some ty) word.Const ∷
+    condition (has_type ty I32) word.WrongType ∷
+    condition (list_all (λ f. nat_lt f (length (func_types_of m))) e.funcs) word.Index ∷ [])
 
 -- A data segment: `index` where the memory doesn't exist; `const` and `type` as above.
 abbrev pub segment_fault : Module → Segment → Option ValidWord
 segment_fault m s =
     let ty = const_type (globals_of m) s.offset in
     first_failing (
-      condition (nat_lt s.memory (length (memories_of m))) word.Index ∷
-      condition (is_some ty) word.Const ∷
-      condition (has_type ty I32) word.WrongType ∷ [])
+    condition (nat_lt s.memory (length (memories_of m))) word.Index ∷
+    condition (is_some ty) word.Const ∷
+    condition (has_type ty I32) word.WrongType ∷ [])
 
 -- ---- instructions
 

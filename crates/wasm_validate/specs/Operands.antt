@@ -1,5 +1,5 @@
 -- The operands that the validator keeps, as the operand types that they stand for.
-use Rattle.std.specs.Prelude.{◌≡◌, ℕ, Bool, true, false, List, [], ◌∷◌, ◌++◌, reverse, Option, Some, None}
+use Rattle.std.specs.Prelude.{◌≡◌, Bool, true, false, List, [], ◌∷◌, ◌++◌, reverse, Option, Some, None}
 use Rattle.wasm_values.specs.declared.number.ValType.{ValType}
 use Rattle.wasm_validate.specs.declared.operands.Operands.{Operands}
 use Rattle.wasm_validate.specs.Typing.{Types}

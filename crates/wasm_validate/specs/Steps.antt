@@ -1,5 +1,5 @@
 -- Words for the walk over a body.
-use Rattle.std.specs.Prelude.{◌≡◌, ℕ, ◌<◌, Bool, true, false, List, map, reverse, length, Option, Some, None, All, Result, IfOk}
+use Rattle.std.specs.Prelude.{◌≡◌, ◌<◌, Bool, true, false, List, map, reverse, length, Option, Some, None, All, Result, IfOk}
 use Rattle.std.specs.Option.{unwrap_or}
 use Rattle.wasm_values.specs.declared.number.ValType.{ValType}
 use Rattle.wasm_values.specs.declared.error.OutOfMemory.{OutOfMemory}

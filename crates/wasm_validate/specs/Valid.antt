@@ -1,10 +1,10 @@
 -- Which modules are valid (Core Specification, section 3.4), part by part.
-use Rattle.std.specs.Prelude.{◌≡◌, ℕ, ◌+◌, ◌<◌, ◌≤◌, ◌^◌, if◌then◌else◌, List, [], ◌∷◌, ◌++◌, length, map, reverse, slice_get, Option, Some, None, IfSome, All, nat_eq}
+use Rattle.std.specs.Prelude.{◌≡◌, ℕ, ◌<◌, ◌≤◌, ◌^◌, if◌then◌else◌, List, [], ◌∷◌, ◌++◌, length, map, reverse, slice_get, Option, Some, None, IfSome, All}
 use Rattle.std.specs.List.{filter_map}
 use Rattle.wasm_values.specs.declared.number.Val.{Val}
 use Rattle.wasm_values.specs.declared.number.Val.TheVariants as val
 use Rattle.wasm_values.specs.declared.number.ValType.{ValType}
-use Rattle.wasm_values.specs.declared.number.ValType.TheVariants.{I32, I64}
+use Rattle.wasm_values.specs.declared.number.ValType.TheVariants.{I32}
 use Rattle.wasm_values.specs.Operators.{type_of}
 use Rattle.wasm_syntax.specs.declared.instr.Instr.{Instr, Const, GlobalGet}
 use Rattle.wasm_syntax.specs.declared.module.FuncType.{FuncType}
@@ -24,7 +24,7 @@ use Rattle.wasm_syntax.specs.declared.module.Custom.{Custom}
 use Rattle.wasm_syntax.specs.declared.module.Module.{Module}
 use Rattle.wasm_syntax.specs.Trees as tree
 use Rattle.wasm_syntax.specs.Trees.{Instruction, Sequence, Empty, Then, IfElse, sequence_of}
-use Rattle.wasm_validate.specs.Typing.{Types, Context, BodyTyped}
+use Rattle.wasm_validate.specs.Typing.{Context, BodyTyped}
 
 -- ---- what entries name: imports first, then what the module defines (section 2.5.1)
 

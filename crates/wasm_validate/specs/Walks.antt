@@ -1,6 +1,5 @@
 -- The walk of the validator over a body: what it keeps says exactly which operands the open parts may leave.
-use Rattle.std.specs.Prelude.{◌≡◌, ℕ, ◌<◌, List, [], ◌∷◌, length, reverse, is_some, Option, Some, None, Bool, true, false, IsTrue}
-use Rattle.wasm_values.specs.declared.number.ValType.{ValType}
+use Rattle.std.specs.Prelude.{◌≡◌, List, [], ◌∷◌, reverse, is_some, Option, Some, None, Bool, true, false, IsTrue}
 use Rattle.wasm_syntax.specs.declared.flat.Flat.{Flat}
 use Rattle.wasm_syntax.specs.declared.flat.Flat.TheVariants as flat
 use Rattle.wasm_syntax.specs.declared.flat.Head.{Head}
@@ -12,8 +11,8 @@ use Rattle.wasm_validate.specs.declared.fault.ValidWord.{ValidWord}
 use Rattle.wasm_validate.specs.declared.operands.Operands.{Operands}
 use Rattle.wasm_validate.specs.declared.walk.Open.{Open}
 use Rattle.wasm_validate.specs.declared.walk.Walk.{Walk}
-use Rattle.wasm_validate.specs.Typing.{Types, Context, types_of, SequenceTyped}
-use Rattle.wasm_validate.specs.Open.{label_of, labels_of, before_part, FirstSideTyped, PartsTyped}
+use Rattle.wasm_validate.specs.Typing.{Context, types_of, SequenceTyped}
+use Rattle.wasm_validate.specs.Open.{labels_of, before_part, FirstSideTyped, PartsTyped}
 use Rattle.wasm_validate.specs.Faults.{item_word}
 use Rattle.wasm_validate.specs.Operands.{Are, Exactly}
 use Rattle.wasm_validate.specs.Steps.{labels_in}

@@ -19,7 +19,11 @@ use wasm_syntax::{Func, Module};
 use wasm_values::{List, ValType};
 
 /// Checks the body of a function.
-pub(crate) fn check_body(alloc: Global, names: &Names<'_>, places: &[usize]) -> Result<(), ValidFault>
+pub(crate) fn check_body(
+    alloc: Global,
+    names: &Names<'_>,
+    places: &[usize],
+) -> Result<(), ValidFault>
     requires names { AreNames names.now }
     requires places { length places.now ≡ length (flat_body names.now.func.now.body) }
     ensures { Answers
@@ -60,7 +64,13 @@ fn first_result(results: &[ValType]) -> Option<ValType>
 }
 
 /// Checks the body of one of a module's functions.
-fn check_func(alloc: Global, module: &Module, scope: &Scope, func: &Func, places: &[usize]) -> Result<(), ValidFault>
+fn check_func(
+    alloc: Global,
+    module: &Module,
+    scope: &Scope,
+    func: &Func,
+    places: &[usize],
+) -> Result<(), ValidFault>
     requires scope { IsScopeOf «module».now scope.now }
     requires types { HasTypes «module».now }
     requires known { func.now.ty < length «module».now.types }
@@ -82,7 +92,12 @@ fn check_func(alloc: Global, module: &Module, scope: &Scope, func: &Func, places
 }
 
 /// Checks the bodies of a module's functions, with the places of the instructions of each.
-pub(crate) fn check_bodies(alloc: Global, module: &Module, scope: &Scope, code: &[List<usize>]) -> Result<(), ValidFault>
+pub(crate) fn check_bodies(
+    alloc: Global,
+    module: &Module,
+    scope: &Scope,
+    code: &[List<usize>],
+) -> Result<(), ValidFault>
     requires scope { IsScopeOf «module».now scope.now }
     requires types { HasTypes «module».now }
     requires code { length code.now ≡ length «module».now.funcs }

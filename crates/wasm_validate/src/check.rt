@@ -47,8 +47,16 @@ pub(crate) fn check_module(alloc: Global, module: &Module, marks: &Marks) -> Res
     sections::check_types(module.types.as_slice(), marks.types.as_slice())?;
     sections::check_imports(module, marks.imports.as_slice())?;
     sections::check_funcs(module, marks.funcs.as_slice())?;
-    sections::check_tables(module, scope::imported_tables(module), marks.tables.as_slice())?;
-    sections::check_memories(module, scope::imported_memories(module), marks.memories.as_slice())?;
+    sections::check_tables(
+        module,
+        scope::imported_tables(module),
+        marks.tables.as_slice(),
+    )?;
+    sections::check_memories(
+        module,
+        scope::imported_memories(module),
+        marks.memories.as_slice(),
+    )?;
     let scope = scope_of(alloc, module)?;
     sections::check_globals(module, &scope, marks.globals.as_slice())?;
     sections::check_exports(alloc, module, &scope, marks.exports.as_slice())?;

@@ -14,7 +14,12 @@ use crate::operands::Operands;
 use wasm_syntax::{Instr, LoadOp, Plain, StoreOp};
 use wasm_values::{IntOp, NumOp, OutOfMemory, Val, ValType};
 
-fn act_plain(operands: &mut Operands, names: &Names<'_>, labels: &[Option<ValType>], op: Plain) -> Result<bool, OutOfMemory>
+fn act_plain(
+    operands: &mut Operands,
+    names: &Names<'_>,
+    labels: &[Option<ValType>],
+    op: Plain,
+) -> Result<bool, OutOfMemory>
     requires names { AreNames names.now }
     requires ready { IsReady (context_in names.now) (labels_in labels.now) (Instr.Plain op) }
     ensures { Acts result (Are operands.old) (Are operands.new) (context_in names.now) (labels_in labels.now) (Instr.Plain op) }
@@ -33,7 +38,12 @@ fn act_plain(operands: &mut Operands, names: &Names<'_>, labels: &[Option<ValTyp
     }
 }
 
-fn act_variable(operands: &mut Operands, names: &Names<'_>, labels: &[Option<ValType>], instr: &Instr) -> Result<bool, OutOfMemory>
+fn act_variable(
+    operands: &mut Operands,
+    names: &Names<'_>,
+    labels: &[Option<ValType>],
+    instr: &Instr,
+) -> Result<bool, OutOfMemory>
     requires names { AreNames names.now }
     requires kind { IsTrue (is_variable instr.now) }
     requires ready { IsReady (context_in names.now) (labels_in labels.now) instr.now }
@@ -90,18 +100,34 @@ fn act_num(operands: &mut Operands, op: NumOp) -> Result<bool, OutOfMemory>
 {
     let (ty, is_one, gives) = match op {
         NumOp::W32(op) => (ValType::I32, is_unary(op), ValType::I32),
-        NumOp::W64(op) => (ValType::I64, is_unary(op), if gives_truth(op) { ValType::I32 } else { ValType::I64 }),
+        NumOp::W64(op) => (
+            ValType::I64,
+            is_unary(op),
+            if gives_truth(op) {
+                ValType::I32
+            } else {
+                ValType::I64
+            },
+        ),
         NumOp::Wrap => (ValType::I64, true, ValType::I32),
         NumOp::ExtendS | NumOp::ExtendU => (ValType::I32, true, ValType::I64),
     };
-    if is_one { operands.turn(&[ty], &[gives]) } else { operands.turn(&[ty, ty], &[gives]) }
+    if is_one {
+        operands.turn(&[ty], &[gives])
+    } else {
+        operands.turn(&[ty, ty], &[gives])
+    }
 }
 
 fn type_of_load(op: LoadOp) -> ValType
     ensures { result ≡ load_type op }
 {
     match op {
-        LoadOp::I32Load | LoadOp::I32Load8S | LoadOp::I32Load8U | LoadOp::I32Load16S | LoadOp::I32Load16U => ValType::I32,
+        LoadOp::I32Load
+        | LoadOp::I32Load8S
+        | LoadOp::I32Load8U
+        | LoadOp::I32Load16S
+        | LoadOp::I32Load16U => ValType::I32,
         _ => ValType::I64,
     }
 }
@@ -125,7 +151,11 @@ fn type_of_value(value: Val) -> ValType
 }
 
 /// An operand of type i32 and operands of these types become operands of others, if they are there.
-fn turn_over(operands: &mut Operands, takes: &[ValType], gives: &[ValType]) -> Result<bool, OutOfMemory>
+fn turn_over(
+    operands: &mut Operands,
+    takes: &[ValType],
+    gives: &[ValType],
+) -> Result<bool, OutOfMemory>
     ensures { IfOk result (λ went. Goes went (Are operands.old) (Are operands.new) (Turns (ValType.I32 ∷ reverse takes.now) (reverse gives.now))) }
 {
     if !operands.take(ValType::I32) {
@@ -134,7 +164,12 @@ fn turn_over(operands: &mut Operands, takes: &[ValType], gives: &[ValType]) -> R
     operands.turn(takes, gives)
 }
 
-fn act_transfer(operands: &mut Operands, names: &Names<'_>, labels: &[Option<ValType>], instr: &Instr) -> Result<bool, OutOfMemory>
+fn act_transfer(
+    operands: &mut Operands,
+    names: &Names<'_>,
+    labels: &[Option<ValType>],
+    instr: &Instr,
+) -> Result<bool, OutOfMemory>
     requires names { AreNames names.now }
     requires kind { IsTrue (is_transfer instr.now) }
     requires ready { IsReady (context_in names.now) (labels_in labels.now) instr.now }
@@ -166,7 +201,12 @@ fn act_transfer(operands: &mut Operands, names: &Names<'_>, labels: &[Option<Val
 }
 
 /// What an instruction does to the operands, where its other needs are met. It tells whether they were there.
-fn act(operands: &mut Operands, names: &Names<'_>, labels: &[Option<ValType>], instr: &Instr) -> Result<bool, OutOfMemory>
+fn act(
+    operands: &mut Operands,
+    names: &Names<'_>,
+    labels: &[Option<ValType>],
+    instr: &Instr,
+) -> Result<bool, OutOfMemory>
     requires names { AreNames names.now }
     requires simple { IsTrue (is_simple instr.now) }
     requires ready { IsReady (context_in names.now) (labels_in labels.now) instr.now }
@@ -178,16 +218,25 @@ fn act(operands: &mut Operands, names: &Names<'_>, labels: &[Option<ValType>], i
         Instr::Const(value) => operands.turn(&[], &[type_of_value(*value)]),
         Instr::Load(op, _, _) => operands.turn(&[ValType::I32], &[type_of_load(*op)]),
         Instr::Store(op, _, _) => operands.turn(&[ValType::I32, type_of_store(*op)], &[]),
-        Instr::LocalGet(_) | Instr::LocalSet(_) | Instr::LocalTee(_) => act_variable(operands, names, labels, instr),
+        Instr::LocalGet(_) | Instr::LocalSet(_) | Instr::LocalTee(_) => act_variable(
+            operands, names, labels, instr,
+        ),
         Instr::GlobalGet(_) | Instr::GlobalSet(_) => act_variable(operands, names, labels, instr),
-        Instr::Br(_) | Instr::BrIf(_) | Instr::BrTable(_, _) => act_transfer(operands, names, labels, instr),
+        Instr::Br(_) | Instr::BrIf(_) | Instr::BrTable(_, _) => act_transfer(
+            operands, names, labels, instr,
+        ),
         Instr::Call(_) | Instr::CallIndirect(_) => act_transfer(operands, names, labels, instr),
         Instr::Block(_, _) | Instr::Loop(_, _) | Instr::If(_, _, _) => unreachable!(),
     }
 }
 
 /// One instruction that holds no others: its word, if it is at fault.
-pub(crate) fn step(operands: &mut Operands, names: &Names<'_>, labels: &[Option<ValType>], instr: &Instr) -> Result<Option<ValidWord>, OutOfMemory>
+pub(crate) fn step(
+    operands: &mut Operands,
+    names: &Names<'_>,
+    labels: &[Option<ValType>],
+    instr: &Instr,
+) -> Result<Option<ValidWord>, OutOfMemory>
     requires names { AreNames names.now }
     requires simple { IsTrue (is_simple instr.now) }
     ensures { IfOk result (λ fault. Steps fault (Are operands.old) (Are operands.new) (context_in names.now) (labels_in labels.now) instr.now) }

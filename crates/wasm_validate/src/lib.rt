@@ -5,14 +5,14 @@ mod body;
 mod check;
 mod fault;
 mod instrs;
-mod needs;
 mod names;
+mod needs;
 mod operands;
 mod rows;
 mod scope;
+mod sections;
 mod valid;
 mod walk;
-mod sections;
 
 pub use fault::{ValidFault, ValidWord};
-pub use valid::{validate, ValidModule};
+pub use valid::{ValidModule, validate};

@@ -1,10 +1,10 @@
-use crate::scope::Scope;
-use wasm_syntax::{Func, FuncType, GlobalType, Module};
-use wasm_values::ValType;
-
 ghost use Rattle.std.specs.Prelude.{◌≡◌, ◌<◌, ◌-◌, length, slice_get, option_map, map};
 ghost use Rattle.wasm_validate.specs.Typing.{types_of};
 ghost use Rattle.wasm_validate.specs.Steps.{context_in, AreNames, labels_in};
+
+use crate::scope::Scope;
+use wasm_syntax::{Func, FuncType, GlobalType, Module};
+use wasm_values::ValType;
 
 /// What the body of a function may name.
 #[derive(Clone, Copy)]
@@ -25,7 +25,12 @@ pub(crate) fn local_type(names: &Names<'_>, x: u32) -> Option<ValType>
     if x < names.params.len() {
         Some(names.params[x])
     } else {
-        names.func.locals.as_slice().get(x - names.params.len()).copied()
+        names
+            .func
+            .locals
+            .as_slice()
+            .get(x - names.params.len())
+            .copied()
     }
 }
 

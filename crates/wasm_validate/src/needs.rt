@@ -47,7 +47,9 @@ fn is_same(a: Option<ValType>, b: Option<ValType>) -> bool
     ensures { result ≡ same_types (types_of a) (types_of b) }
 {
     match (a, b) {
-        (None, None) | (Some(ValType::I32), Some(ValType::I32)) | (Some(ValType::I64), Some(ValType::I64)) => true,
+        (None, None)
+        | (Some(ValType::I32), Some(ValType::I32))
+        | (Some(ValType::I64), Some(ValType::I64)) => true,
         _ => false,
     }
 }
@@ -86,7 +88,11 @@ fn all_labels(labels: &[Option<ValType>], targets: &[u32], wanted: Option<ValTyp
 fn index_unless(is_there: bool) -> Option<ValidWord>
     ensures { result ≡ first_failing (condition is_there ValidWord.Index ∷ []) }
 {
-    if is_there { None } else { Some(ValidWord::Index) }
+    if is_there {
+        None
+    } else {
+        Some(ValidWord::Index)
+    }
 }
 
 fn align_fault(names: &Names<'_>, align: u32, width: u32) -> Option<ValidWord>
@@ -97,7 +103,11 @@ fn align_fault(names: &Names<'_>, align: u32, width: u32) -> Option<ValidWord>
     if names.scope.memories == 0 {
         return Some(ValidWord::Index);
     }
-    if is_aligned(align, width) { None } else { Some(ValidWord::Align) }
+    if is_aligned(align, width) {
+        None
+    } else {
+        Some(ValidWord::Align)
+    }
 }
 
 fn set_fault(names: &Names<'_>, x: u32) -> Option<ValidWord>
@@ -106,20 +116,32 @@ fn set_fault(names: &Names<'_>, x: u32) -> Option<ValidWord>
 {
     match names.scope.globals.get(x as usize) {
         Some(global) => {
-            if global.mutable { None } else { Some(ValidWord::WrongType) }
+            if global.mutable {
+                None
+            } else {
+                Some(ValidWord::WrongType)
+            }
         }
         None => Some(ValidWord::Index),
     }
 }
 
 /// The first need of an instruction that isn't met, as its word.
-pub(crate) fn first_need(names: &Names<'_>, labels: &[Option<ValType>], instr: &Instr) -> Option<ValidWord>
+pub(crate) fn first_need(
+    names: &Names<'_>,
+    labels: &[Option<ValType>],
+    instr: &Instr,
+) -> Option<ValidWord>
     requires { AreNames names.now }
     ensures { result ≡ first_failing (conditions (context_in names.now) (labels_in labels.now) instr.now) }
 {
     match instr {
-        Instr::Plain(Plain::MemorySize) | Instr::Plain(Plain::MemoryGrow) => index_unless(names.scope.memories > 0),
-        Instr::LocalGet(x) | Instr::LocalSet(x) | Instr::LocalTee(x) => index_unless(names::local_type(names, *x).is_some()),
+        Instr::Plain(Plain::MemorySize) | Instr::Plain(Plain::MemoryGrow) => index_unless(
+            names.scope.memories > 0,
+        ),
+        Instr::LocalGet(x) | Instr::LocalSet(x) | Instr::LocalTee(x) => index_unless(
+            names::local_type(names, *x).is_some(),
+        ),
         Instr::GlobalGet(x) => index_unless(names.scope.globals.get(*x as usize).is_some()),
         Instr::GlobalSet(x) => set_fault(names, *x),
         Instr::Load(op, align, _) => align_fault(names, *align, width_of_load(*op)),
@@ -127,7 +149,9 @@ pub(crate) fn first_need(names: &Names<'_>, labels: &[Option<ValType>], instr: &
         Instr::Br(l) | Instr::BrIf(l) => label_unless(names::label_at(labels, *l).is_some()),
         Instr::BrTable(ls, l) => label_unless(have_one_type(labels, ls.as_slice(), *l)),
         Instr::Call(f) => index_unless(names::func_type(names, *f).is_some()),
-        Instr::CallIndirect(t) => index_unless(names.scope.tables > 0 && names.whole.types.as_slice().get(*t as usize).is_some()),
+        Instr::CallIndirect(t) => index_unless(
+            names.scope.tables > 0 && names.whole.types.as_slice().get(*t as usize).is_some(),
+        ),
         _ => None,
     }
 }
@@ -135,5 +159,9 @@ pub(crate) fn first_need(names: &Names<'_>, labels: &[Option<ValType>], instr: &
 fn label_unless(is_there: bool) -> Option<ValidWord>
     ensures { result ≡ first_failing (condition is_there ValidWord.Label ∷ []) }
 {
-    if is_there { None } else { Some(ValidWord::Label) }
+    if is_there {
+        None
+    } else {
+        Some(ValidWord::Label)
+    }
 }

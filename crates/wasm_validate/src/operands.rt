@@ -33,7 +33,9 @@ fn common(first: Option<ValType>, second: Option<ValType>) -> Option<Option<ValT
 {
     match (first, second) {
         (None, known) | (known, None) => Some(known),
-        (Some(ValType::I32), Some(ValType::I32)) | (Some(ValType::I64), Some(ValType::I64)) => Some(first),
+        (Some(ValType::I32), Some(ValType::I32)) | (Some(ValType::I64), Some(ValType::I64)) => Some(
+            first,
+        ),
         _ => None,
     }
 }
@@ -79,9 +81,7 @@ impl Operands {
     {
         match self.items.pop() {
             Some(known) => Some(known),
-            None => {
-                if self.dead { Some(None) } else { None }
-            }
+            None => { if self.dead { Some(None) } else { None } }
         }
     }
 

@@ -9,13 +9,20 @@ ghost use Rattle.wasm_validate.specs.Answers.{IsScopeOf};
 
 use crate::fault::ValidWord;
 use crate::scope::Scope;
-use wasm_syntax::{Elem, ExportKind, Func, FuncType, Global, GlobalType, ImportKind, Instr, Limits, Module, Segment};
+use wasm_syntax::{
+    Elem, ExportKind, Func, FuncType, Global, GlobalType, ImportKind, Instr, Limits, Module,
+    Segment,
+};
 use wasm_values::{Val, ValType};
 
 pub(crate) fn fault_of_type(ty: &FuncType) -> Option<ValidWord>
     ensures { result ≡ type_fault ty.now }
 {
-    if ty.results.len() <= 1 { None } else { Some(ValidWord::WrongType) }
+    if ty.results.len() <= 1 {
+        None
+    } else {
+        Some(ValidWord::WrongType)
+    }
 }
 
 pub(crate) fn fault_of_table(is_first: bool, limits: &Limits) -> Option<ValidWord>
@@ -26,7 +33,11 @@ pub(crate) fn fault_of_table(is_first: bool, limits: &Limits) -> Option<ValidWor
     }
     match limits.max {
         Some(max) => {
-            if limits.min <= max { None } else { Some(ValidWord::Limits) }
+            if limits.min <= max {
+                None
+            } else {
+                Some(ValidWord::Limits)
+            }
         }
         None => None,
     }
@@ -46,14 +57,22 @@ pub(crate) fn fault_of_memory(is_first: bool, limits: &Limits) -> Option<ValidWo
 }
 
 /// The n-th table that the module defines, after so many imported ones.
-pub(crate) fn fault_of_defined_table(imported: usize, n: usize, limits: &Limits) -> Option<ValidWord>
+pub(crate) fn fault_of_defined_table(
+    imported: usize,
+    n: usize,
+    limits: &Limits,
+) -> Option<ValidWord>
     ensures { result ≡ table_fault (nat_eq (imported + n) 0) limits.now }
 {
     fault_of_table(imported == 0 && n == 0, limits)
 }
 
 /// The n-th memory that the module defines, after so many imported ones.
-pub(crate) fn fault_of_defined_memory(imported: usize, n: usize, limits: &Limits) -> Option<ValidWord>
+pub(crate) fn fault_of_defined_memory(
+    imported: usize,
+    n: usize,
+    limits: &Limits,
+) -> Option<ValidWord>
     ensures { result ≡ memory_fault (nat_eq (imported + n) 0) limits.now }
 {
     fault_of_memory(imported == 0 && n == 0, limits)
@@ -63,11 +82,20 @@ pub(crate) fn fault_of_defined_memory(imported: usize, n: usize, limits: &Limits
 pub(crate) fn fault_of_number(number: u32, count: usize) -> Option<ValidWord>
     ensures { result ≡ first_failing (condition (nat_lt number count) ValidWord.Index ∷ []) }
 {
-    if (number as usize) < count { None } else { Some(ValidWord::Index) }
+    if (number as usize) < count {
+        None
+    } else {
+        Some(ValidWord::Index)
+    }
 }
 
 /// An import after so many tables and memories.
-pub(crate) fn fault_of_import(module: &Module, tables: usize, memories: usize, kind: &ImportKind) -> Option<ValidWord>
+pub(crate) fn fault_of_import(
+    module: &Module,
+    tables: usize,
+    memories: usize,
+    kind: &ImportKind,
+) -> Option<ValidWord>
     ensures { result ≡ import_row (length «module».now.types) (nat_eq tables 0) (nat_eq memories 0) kind.now }
 {
     match kind {
@@ -113,7 +141,11 @@ pub(crate) fn type_of_const(globals: &[GlobalType], instrs: &[Instr]) -> Option<
         [Instr::Const(Val::I64(_))] => Some(ValType::I64),
         [Instr::GlobalGet(x)] => match globals.get(*x as usize) {
             Some(global) => {
-                if global.mutable { None } else { Some(global.value) }
+                if global.mutable {
+                    None
+                } else {
+                    Some(global.value)
+                }
             }
             None => None,
         },
@@ -138,7 +170,11 @@ pub(crate) fn fault_of_global(module: &Module, scope: &Scope, global: &Global) -
     if ty.is_none() {
         return Some(ValidWord::Const);
     }
-    if is_typed(ty, global.ty.value) { None } else { Some(ValidWord::WrongType) }
+    if is_typed(ty, global.ty.value) {
+        None
+    } else {
+        Some(ValidWord::WrongType)
+    }
 }
 
 /// Whether what is exported exists.
@@ -161,7 +197,11 @@ pub(crate) fn fault_of_start(module: &Module, scope: &Scope, func: u32) -> Optio
     match scope.funcs.get(func as usize) {
         Some(ty) => match module.types.as_slice().get(*ty as usize) {
             Some(ty) => {
-                if ty.params.len() == 0 && ty.results.len() == 0 { None } else { Some(ValidWord::Start) }
+                if ty.params.len() == 0 && ty.results.len() == 0 {
+                    None
+                } else {
+                    Some(ValidWord::Start)
+                }
             }
             None => None,
         },
@@ -189,10 +229,18 @@ pub(crate) fn fault_of_elem(module: &Module, scope: &Scope, elem: &Elem) -> Opti
     if !is_typed(ty, ValType::I32) {
         return Some(ValidWord::WrongType);
     }
-    if all_below(elem.funcs.as_slice(), scope.funcs.len()) { None } else { Some(ValidWord::Index) }
+    if all_below(elem.funcs.as_slice(), scope.funcs.len()) {
+        None
+    } else {
+        Some(ValidWord::Index)
+    }
 }
 
-pub(crate) fn fault_of_segment(module: &Module, scope: &Scope, segment: &Segment) -> Option<ValidWord>
+pub(crate) fn fault_of_segment(
+    module: &Module,
+    scope: &Scope,
+    segment: &Segment,
+) -> Option<ValidWord>
     requires { IsScopeOf «module».now scope.now }
     ensures { result ≡ segment_fault «module».now segment.now }
 {
@@ -203,5 +251,9 @@ pub(crate) fn fault_of_segment(module: &Module, scope: &Scope, segment: &Segment
     if ty.is_none() {
         return Some(ValidWord::Const);
     }
-    if is_typed(ty, ValType::I32) { None } else { Some(ValidWord::WrongType) }
+    if is_typed(ty, ValType::I32) {
+        None
+    } else {
+        Some(ValidWord::WrongType)
+    }
 }

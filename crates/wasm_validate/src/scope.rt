@@ -1,10 +1,10 @@
-use std::alloc::{AllocError, Global as Heap};
-use wasm_syntax::{GlobalType, ImportKind, Module};
-
 ghost use Rattle.std.specs.Prelude.{◌≡◌, ◌++◌, [], length, IfOk, OnOk};
 ghost use Rattle.std.specs.List.{filter_map, cons_option};
 ghost use Rattle.wasm_syntax.specs.declared.module.Import.{Import};
 ghost use Rattle.wasm_validate.specs.Valid.{func_types_of, imported_globals_of, globals_of, table_import, memory_import, func_import, global_import};
+
+use std::alloc::{AllocError, Global as Heap};
+use wasm_syntax::{GlobalType, ImportKind, Module};
 
 /// What the entries of a module may name, imports first.
 #[derive(Drop)]

@@ -64,7 +64,11 @@ pub(crate) fn check_funcs(module: &Module, places: &[usize]) -> Result<(), Valid
     Ok(())
 }
 
-pub(crate) fn check_tables(module: &Module, imported: usize, places: &[usize]) -> Result<(), ValidFault>
+pub(crate) fn check_tables(
+    module: &Module,
+    imported: usize,
+    places: &[usize],
+) -> Result<(), ValidFault>
     requires places { length places.now ≡ length «module».now.tables }
     requires imported { imported ≡ length (filter_map (λ (i : Import). table_import i.kind) «module».now.imports) }
     ensures { Answers (λ done. NoFault (module_table_fault «module».now) «module».now.tables) (FirstFault (module_table_fault «module».now) «module».now.tables places.now) result }
@@ -80,7 +84,11 @@ pub(crate) fn check_tables(module: &Module, imported: usize, places: &[usize]) -
     Ok(())
 }
 
-pub(crate) fn check_memories(module: &Module, imported: usize, places: &[usize]) -> Result<(), ValidFault>
+pub(crate) fn check_memories(
+    module: &Module,
+    imported: usize,
+    places: &[usize],
+) -> Result<(), ValidFault>
     requires places { length places.now ≡ length «module».now.memories }
     requires imported { imported ≡ length (filter_map (λ (i : Import). memory_import i.kind) «module».now.imports) }
     ensures { Answers (λ done. NoFault (module_memory_fault «module».now) «module».now.memories) (FirstFault (module_memory_fault «module».now) «module».now.memories places.now) result }
@@ -96,7 +104,11 @@ pub(crate) fn check_memories(module: &Module, imported: usize, places: &[usize])
     Ok(())
 }
 
-pub(crate) fn check_globals(module: &Module, scope: &Scope, places: &[usize]) -> Result<(), ValidFault>
+pub(crate) fn check_globals(
+    module: &Module,
+    scope: &Scope,
+    places: &[usize],
+) -> Result<(), ValidFault>
     requires places { length places.now ≡ length «module».now.globals }
     requires scope { IsScopeOf «module».now scope.now }
     ensures { Answers (λ done. NoFault (λ n. global_fault «module».now) «module».now.globals) (FirstFault (λ n. global_fault «module».now) «module».now.globals places.now) result }
@@ -112,7 +124,11 @@ pub(crate) fn check_globals(module: &Module, scope: &Scope, places: &[usize]) ->
     Ok(())
 }
 
-pub(crate) fn check_elems(module: &Module, scope: &Scope, places: &[usize]) -> Result<(), ValidFault>
+pub(crate) fn check_elems(
+    module: &Module,
+    scope: &Scope,
+    places: &[usize],
+) -> Result<(), ValidFault>
     requires places { length places.now ≡ length «module».now.elems }
     requires scope { IsScopeOf «module».now scope.now }
     ensures { Answers (λ done. NoFault (λ n. elem_fault «module».now) «module».now.elems) (FirstFault (λ n. elem_fault «module».now) «module».now.elems places.now) result }
@@ -128,7 +144,11 @@ pub(crate) fn check_elems(module: &Module, scope: &Scope, places: &[usize]) -> R
     Ok(())
 }
 
-pub(crate) fn check_segments(module: &Module, scope: &Scope, places: &[usize]) -> Result<(), ValidFault>
+pub(crate) fn check_segments(
+    module: &Module,
+    scope: &Scope,
+    places: &[usize],
+) -> Result<(), ValidFault>
     requires places { length places.now ≡ length «module».now.segments }
     requires scope { IsScopeOf «module».now scope.now }
     ensures { Answers (λ done. NoFault (λ n. segment_fault «module».now) «module».now.segments) (FirstFault (λ n. segment_fault «module».now) «module».now.segments places.now) result }
@@ -148,7 +168,7 @@ pub(crate) fn check_segments(module: &Module, scope: &Scope, places: &[usize]) -
 fn add_name<'a>(names: &mut IndexSet<&'a str>, name: &'a str) -> Result<bool, ValidFault>
     ensures added { Answers
         (λ is_new. (is_new ≡ not (list_any (bytes_eq name.now) (texts_of names.old.keys)))
-            × (is_new ≡ true → texts_of names.new.keys ≡ texts_of names.old.keys ++ name.now ∷ []))
+        × (is_new ≡ true → texts_of names.new.keys ≡ texts_of names.old.keys ++ name.now ∷ []))
         (λ at w. ⊥)
         result }
 {
@@ -159,11 +179,16 @@ fn add_name<'a>(names: &mut IndexSet<&'a str>, name: &'a str) -> Result<bool, Va
 }
 
 /// The fault of an export after those of these names. Its name is added where it has none.
-fn fault_of_export<'a>(module: &Module, scope: &Scope, names: &mut IndexSet<&'a str>, export: &'a Export) -> Result<Option<ValidWord>, ValidFault>
+fn fault_of_export<'a>(
+    module: &Module,
+    scope: &Scope,
+    names: &mut IndexSet<&'a str>,
+    export: &'a Export,
+) -> Result<Option<ValidWord>, ValidFault>
     requires { IsScopeOf «module».now scope.now }
     ensures fault { Answers
         (λ fault. (fault ≡ export_row «module».now (texts_of names.old.keys) export.now)
-            × (fault ≡ None → texts_of names.new.keys ≡ texts_of names.old.keys ++ export.now.name ∷ []))
+        × (fault ≡ None → texts_of names.new.keys ≡ texts_of names.old.keys ++ export.now.name ∷ []))
         (λ at w. ⊥)
         result }
 {
@@ -177,7 +202,12 @@ fn fault_of_export<'a>(module: &Module, scope: &Scope, names: &mut IndexSet<&'a 
     }
 }
 
-pub(crate) fn check_exports(alloc: Global, module: &Module, scope: &Scope, places: &[usize]) -> Result<(), ValidFault>
+pub(crate) fn check_exports(
+    alloc: Global,
+    module: &Module,
+    scope: &Scope,
+    places: &[usize],
+) -> Result<(), ValidFault>
     requires places { length places.now ≡ length «module».now.exports }
     requires scope { IsScopeOf «module».now scope.now }
     ensures { Answers (λ done. NoFault (export_fault «module».now) «module».now.exports) (FirstFault (export_fault «module».now) «module».now.exports places.now) result }

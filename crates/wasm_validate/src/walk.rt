@@ -75,7 +75,10 @@ fn take_choice(operands: &mut Operands, head: Head) -> bool
     }
 }
 
-fn push_label(labels: &mut SmallVec<Option<ValType>, 8>, label: Option<ValType>) -> Result<(), OutOfMemory>
+fn push_label(
+    labels: &mut SmallVec<Option<ValType>, 8>,
+    label: Option<ValType>,
+) -> Result<(), OutOfMemory>
     ensures { OnOk result (labels.new.items ≡ labels.old.items ++ label ∷ []) }
 {
     match labels.push(label) {
@@ -187,19 +190,33 @@ impl Walk {
     }
 
     /// Goes on behind an item, or tells what is wrong with it.
-    pub fn advance(&mut self, alloc: Global, names: &Names<'_>, item: &Flat) -> Result<Option<ValidWord>, OutOfMemory>
+    pub fn advance(
+        &mut self,
+        alloc: Global,
+        names: &Names<'_>,
+        item: &Flat,
+    ) -> Result<Option<ValidWord>, OutOfMemory>
         requires names { AreNames names.now }
         requires simple { IsOneSimple item.now }
         ensures { IfOk result (λ fault. (ps : List Part) → IsAt (context_in names.now) self.old ps → Walked fault (context_in names.now) self.new ps item.now) }
     {
         let led = match item {
-            Flat::One(instr) => return step(&mut self.operands, names, self.labels.as_slice(), instr),
+            Flat::One(instr) => return step(
+                &mut self.operands,
+                names,
+                self.labels.as_slice(),
+                instr,
+            ),
             Flat::Block(ty) => self.begin(alloc, Head::Block(*ty))?,
             Flat::Loop(ty) => self.begin(alloc, Head::Loop(*ty))?,
             Flat::If(ty) => self.begin(alloc, Head::If(*ty))?,
             Flat::Else => self.turn(alloc, names.results)?,
             Flat::End => self.end()?,
         };
-        if led { Ok(None) } else { Ok(Some(ValidWord::Stack)) }
+        if led {
+            Ok(None)
+        } else {
+            Ok(Some(ValidWord::Stack))
+        }
     }
 }

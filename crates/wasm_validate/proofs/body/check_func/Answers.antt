@@ -1,4 +1,4 @@
-use Rattle.std.proofs.Common.{ℕ, List, ◌<◌, length, sym, subst}
+use Rattle.std.proofs.Common.{List, ◌<◌, length, sym, subst}
 use Rattle.wasm_syntax.specs.declared.module.FuncType.{FuncType}
 use Rattle.wasm_validate.proofs.BodyLemmas.{params_at, results_at}
 use Rattle.wasm_validate.proofs.body.check_func.Goals as goal

@@ -1,10 +1,8 @@
-use Rattle.std.proofs.Common.{◌≡◌, ◌<◌, [], ◌∷◌, reverse, length, slice_get, Ok, true, sym, ap, ◌∙◌, refl, option_map}
-use Rattle.std.specs.List.{All}
-use Rattle.wasm_values.specs.declared.number.ValType.TheVariants.{I32, I64}
+use Rattle.std.proofs.Common.{[], ◌∷◌, ap, refl}
+use Rattle.wasm_values.specs.declared.number.ValType.TheVariants.{I32}
 use Rattle.wasm_values.specs.Operators.{type_of, result_type}
 use Rattle.wasm_syntax.specs.declared.instr.Instr as source
-use Rattle.wasm_syntax.specs.declared.module.FuncType.{FuncType}
-use Rattle.wasm_validate.specs.Typing.{Types, types_of, num_takes, Turns, Takes}
+use Rattle.wasm_validate.specs.Typing.{num_takes, Turns}
 use Rattle.wasm_validate.specs.Operands.{Are}
 use Rattle.wasm_validate.specs.Steps.{context_in, labels_in}
 use Rattle.wasm_validate.proofs.ActLemmas.{acts_as, same_self, same_turns, same_load, same_store, ready_along}
@@ -25,4 +23,3 @@ returns-in-Load c =
 pub returns-in-Store : goal.returns-in-Store
 returns-in-Store c =
     acts_as c.turn-in-Store.result (Are c.args.operands.now) (Are c.turn-in-Store.new.self) (Turns (c.type_of_store.result ∷ I32 ∷ []) []) (context_in c.args.names.now) (labels_in c.args.labels.now) c.args.instr.now (source.Store c.in-Store.op c.in-Store.field-1 c.in-Store.field-2) c.in-Store.is (same_store (context_in c.args.names.now) (labels_in c.args.labels.now) c.in-Store.op c.in-Store.field-1 c.in-Store.field-2 c.type_of_store.result c.type_of_store.ensures (ready_along (context_in c.args.names.now) (labels_in c.args.labels.now) c.args.instr.now (source.Store c.in-Store.op c.in-Store.field-1 c.in-Store.field-2) c.in-Store.is c.requires.ready)) c.turn-in-Store.ensures
-

@@ -1,12 +1,10 @@
-use Rattle.std.proofs.Common.{◌≡◌, [], ◌∷◌, reverse, length, slice_get, Ok, true, sym, ap, ◌∙◌, refl}
+use Rattle.std.proofs.Common.{[], ◌∷◌, Ok, true, ap}
 use Rattle.wasm_values.specs.declared.number.ValType.{ValType}
-use Rattle.wasm_values.specs.declared.number.ValType.TheVariants.{I32, I64}
+use Rattle.wasm_values.specs.declared.number.ValType.TheVariants.{I32}
 use Rattle.wasm_syntax.specs.declared.instr.Plain.TheVariants as plain
 use Rattle.wasm_syntax.specs.declared.instr.Instr as source
-use Rattle.wasm_syntax.specs.declared.module.GlobalType.{GlobalType}
-use Rattle.wasm_syntax.specs.declared.module.FuncType.{FuncType}
 use Rattle.wasm_validate.specs.declared.fault.ValidWord.TheVariants as word
-use Rattle.wasm_validate.specs.Typing.{Types, types_of, Turns, Takes}
+use Rattle.wasm_validate.specs.Typing.{Turns}
 use Rattle.wasm_validate.specs.Operands.{Are}
 use Rattle.wasm_validate.specs.Steps.{context_in, labels_in}
 use Rattle.wasm_validate.proofs.OperandLemmas.{are_some}
@@ -28,4 +26,3 @@ returns-in-Select c =
 pub returns-in-MemorySize : goal.returns-in-MemorySize
 returns-in-MemorySize c =
     acts_as c.turn.result (Are c.args.operands.now) (Are c.turn.new.self) (Turns [] (I32 ∷ [])) (context_in c.args.names.now) (labels_in c.args.labels.now) (source.Plain c.args.op) (source.Plain plain.MemorySize) (ap source.Plain c.in-MemorySize.is) (guarded _ _ (lt_from 0 _ (first_holds _ word.Index [] (ready_along (context_in c.args.names.now) (labels_in c.args.labels.now) (source.Plain c.args.op) (source.Plain plain.MemorySize) (ap source.Plain c.in-MemorySize.is) c.requires.ready)))) c.turn.ensures
-

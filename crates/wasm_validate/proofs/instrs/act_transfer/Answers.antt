@@ -1,10 +1,9 @@
-use Rattle.std.proofs.Common.{◌≡◌, ◌<◌, [], ◌∷◌, reverse, length, slice_get, Ok, true, sym, ap, ◌∙◌, refl, option_map, Some}
+use Rattle.std.proofs.Common.{◌≡◌, ◌∷◌, reverse, slice_get, Ok, sym, ap, ◌∙◌, option_map, Some}
 use Rattle.std.specs.List.{All}
-use Rattle.wasm_values.specs.declared.number.ValType.TheVariants.{I32, I64}
-use Rattle.wasm_values.specs.Operators.{type_of, result_type}
+use Rattle.wasm_values.specs.declared.number.ValType.TheVariants.{I32}
 use Rattle.wasm_syntax.specs.declared.instr.Instr as source
 use Rattle.wasm_syntax.specs.declared.module.FuncType.{FuncType}
-use Rattle.wasm_validate.specs.Typing.{Types, types_of, num_takes, Turns, Takes}
+use Rattle.wasm_validate.specs.Typing.{types_of, Turns, Takes}
 use Rattle.wasm_validate.specs.Operands.{Are}
 use Rattle.wasm_validate.specs.Steps.{context_in, labels_in}
 use Rattle.wasm_validate.proofs.ActLemmas.{acts_as, looked_up, looked_up_with, ready_along, same_then, same_turns, guarded, targets_there, table_there}
@@ -25,4 +24,3 @@ returns-in-Some-func_type c =
 pub returns-in-Some-numbered_type : goal.returns-in-Some-numbered_type
 returns-in-Some-numbered_type c =
     acts_as c.turn_over.result (Are c.args.operands.now) (Are c.turn_over.new.operands) (Turns (I32 ∷ reverse c.as_slice-in-Some-numbered_type.result.now) (reverse c.as_slice-in-Some-numbered_type-2.result.now)) (context_in c.args.names.now) (labels_in c.args.labels.now) c.args.instr.now (source.CallIndirect c.in-CallIndirect.t) c.in-CallIndirect.is (same_then _ _ _ (same_then _ _ _ (same_turns _ _ _ _ (ap (λ xs. I32 ∷ reverse xs) c.as_slice-in-Some-numbered_type.ensures) (ap reverse c.as_slice-in-Some-numbered_type-2.ensures)) (looked_up (slice_get (context_in c.args.names.now).types c.in-CallIndirect.t) c.in-Some-numbered_type.ty.now (λ (ty : FuncType). Turns (I32 ∷ reverse ty.params) (reverse ty.results)) (sym c.numbered_type.ensures ∙ ap (option_map (λ ty. ty.now)) c.in-Some-numbered_type.is))) (guarded _ _ (table_there (context_in c.args.names.now) (labels_in c.args.labels.now) c.in-CallIndirect.t (ready_along (context_in c.args.names.now) (labels_in c.args.labels.now) c.args.instr.now (source.CallIndirect c.in-CallIndirect.t) c.in-CallIndirect.is c.requires.ready)))) c.turn_over.ensures
-

@@ -1,15 +1,10 @@
-use Rattle.std.proofs.Common.{◌≡◌, [], ◌∷◌, reverse, length, slice_get, Ok, true, sym, ap, ◌∙◌, refl}
+use Rattle.std.proofs.Common.{◌≡◌, [], ◌∷◌, slice_get, true, sym, ◌∙◌}
 use Rattle.wasm_values.specs.declared.number.ValType.{ValType}
-use Rattle.wasm_values.specs.declared.number.ValType.TheVariants.{I32, I64}
-use Rattle.wasm_syntax.specs.declared.instr.Plain as plain
 use Rattle.wasm_syntax.specs.declared.instr.Instr as source
 use Rattle.wasm_syntax.specs.declared.module.GlobalType.{GlobalType}
-use Rattle.wasm_syntax.specs.declared.module.FuncType.{FuncType}
-use Rattle.wasm_validate.specs.declared.fault.ValidWord.TheVariants as word
-use Rattle.wasm_validate.specs.Typing.{Types, types_of, Turns, Takes}
+use Rattle.wasm_validate.specs.Typing.{Turns}
 use Rattle.wasm_validate.specs.Operands.{Are}
 use Rattle.wasm_validate.specs.Steps.{context_in, labels_in}
-use Rattle.wasm_validate.proofs.OperandLemmas.{are_some}
 use Rattle.wasm_validate.proofs.ActLemmas.{acts_as, looked_up, looked_up_with, ready_along, set_mutable}
 use Rattle.wasm_validate.proofs.instrs.act_variable.Goals as goal
 
@@ -28,4 +23,3 @@ returns-in-Some-global_type c =
 pub returns-in-Some-global_type-2 : goal.returns-in-Some-global_type-2
 returns-in-Some-global_type-2 c =
     acts_as c.turn-in-Some-global_type-2.result (Are c.args.operands.now) (Are c.turn-in-Some-global_type-2.new.self) (Turns (c.in-Some-global_type-2.ty.value ∷ []) []) (context_in c.args.names.now) (labels_in c.args.labels.now) c.args.instr.now (source.GlobalSet c.in-GlobalSet.x) c.in-GlobalSet.is (looked_up_with (slice_get (context_in c.args.names.now).globals c.in-GlobalSet.x) c.in-Some-global_type-2.ty (λ (g : GlobalType). g.mutable ≡ true) (λ (g : GlobalType). Turns (g.value ∷ []) []) (sym c.global_type-in-GlobalSet.ensures ∙ c.in-Some-global_type-2.is) (set_mutable (context_in c.args.names.now) (labels_in c.args.labels.now) c.in-GlobalSet.x c.in-Some-global_type-2.ty (ready_along (context_in c.args.names.now) (labels_in c.args.labels.now) c.args.instr.now (source.GlobalSet c.in-GlobalSet.x) c.in-GlobalSet.is c.requires.ready) (sym c.global_type-in-GlobalSet.ensures ∙ c.in-Some-global_type-2.is))) c.turn-in-Some-global_type-2.ensures
-

@@ -1,10 +1,4 @@
-use Rattle.std.proofs.Common.{◌≡◌, ◌<◌, [], ◌∷◌, reverse, length, slice_get, Ok, true, sym, ap, ◌∙◌, refl, option_map}
-use Rattle.std.specs.List.{All}
-use Rattle.wasm_values.specs.declared.number.ValType.TheVariants.{I32, I64}
-use Rattle.wasm_values.specs.Operators.{type_of, result_type}
-use Rattle.wasm_syntax.specs.declared.instr.Instr as source
-use Rattle.wasm_syntax.specs.declared.module.FuncType.{FuncType}
-use Rattle.wasm_validate.specs.Typing.{Types, types_of, num_takes, Turns, Takes}
+use Rattle.std.proofs.Common.{sym, ◌∙◌}
 use Rattle.wasm_validate.specs.Operands.{Are}
 use Rattle.wasm_validate.specs.Steps.{context_in, labels_in}
 use Rattle.wasm_validate.proofs.ActLemmas.{need_stuck}
@@ -13,4 +7,3 @@ use Rattle.wasm_validate.proofs.instrs.step.Goals as goal
 pub returns-in-Some : goal.returns-in-Some
 returns-in-Some c =
     need_stuck (Are c.args.operands.now) (context_in c.args.names.now) (labels_in c.args.labels.now) c.args.instr.now c.in-Some.word c.requires.simple (sym c.first_need.ensures ∙ c.in-Some.is)
-

@@ -1,4 +1,4 @@
-use Rattle.std.proofs.Common.{◌≡◌, ◌++◌, length, take, map}
+use Rattle.std.proofs.Common.{◌≡◌, ◌++◌, take, map}
 use Rattle.wasm_syntax.specs.declared.module.Global.{Global}
 use Rattle.wasm_validate.specs.Valid.{imported_globals_of}
 use Rattle.wasm_validate.proofs.scope.all_globals.Given as goal

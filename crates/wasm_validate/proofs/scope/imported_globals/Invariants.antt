@@ -1,4 +1,4 @@
-use Rattle.std.proofs.Common.{◌≡◌, ◌++◌, length, take, map}
+use Rattle.std.proofs.Common.{◌≡◌, take}
 use Rattle.std.specs.List.{filter_map}
 use Rattle.wasm_syntax.specs.declared.module.Import.{Import}
 use Rattle.wasm_validate.specs.Valid.{global_import}

@@ -1,4 +1,3 @@
-use Rattle.std.proofs.Common.{sym, ap, ◌∙◌}
 use Rattle.wasm_validate.proofs.SectionLemmas.{name_added}
 use Rattle.wasm_validate.proofs.sections.add_name.Goals as goal
 

@@ -13,4 +13,3 @@ loop-n-preserved c =
 
 pub returns : goal.returns
 returns c = none_at_end (module_table_fault c.args.module.now) c.args.module.now.tables c.as_slice-limits-items.result.now c.loop-n.n c.as_slice-limits-items.ensures c.loop-n-test.false c.loop-n.invariant
-

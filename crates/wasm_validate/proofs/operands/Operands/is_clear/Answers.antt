@@ -1,4 +1,3 @@
-use Rattle.wasm_validate.specs.Operands.{Are}
 use Rattle.wasm_validate.proofs.OperandLemmas.{not_clear_test}
 use Rattle.wasm_validate.proofs.operands.Operands.is_clear.Goals as goal
 

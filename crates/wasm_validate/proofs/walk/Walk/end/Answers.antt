@@ -1,13 +1,7 @@
-use Rattle.std.proofs.Common.{◌≡◌, [], ◌∷◌, ◌++◌, true, false, List, Option, Some, None, IfOk, refl, sym, ap, ◌∙◌, subst}
-use Rattle.wasm_values.specs.declared.number.ValType.{ValType}
-use Rattle.wasm_validate.specs.declared.operands.Operands.{Operands}
-use Rattle.wasm_validate.specs.declared.walk.Open.{Open}
+use Rattle.std.proofs.Common.{refl, sym, subst}
 use Rattle.wasm_validate.specs.declared.walk.Walk.{Walk}
-use Rattle.wasm_validate.specs.Typing.{Types, types_of}
-use Rattle.wasm_validate.specs.Open.{part_results, before_part}
-use Rattle.wasm_validate.specs.Operands.{Are, Exactly, Gave}
-use Rattle.wasm_validate.specs.Steps.{context_in, labels_in, Steps}
-use Rattle.wasm_validate.proofs.WalkLemmas.{opened}
+use Rattle.wasm_validate.specs.Typing.{Types}
+use Rattle.wasm_validate.specs.Operands.{Are, Gave}
 use Rattle.wasm_validate.proofs.WalkSteps.{ends, ends_not, labels_popped}
 use Rattle.wasm_validate.proofs.walk.Walk.end.Goals as goal
 
@@ -22,11 +16,10 @@ returns-then-not-finish c =
 pub returns-in_ok-give_with-in-Some : goal.returns-in_ok-give_with-in-Some
 returns-in_ok-give_with-in-Some c =
     λ c2 ps h.
-      let after : Walk = record { operands = c.give_with.new.self; opens = c.pop.new.self; labels = c.pop-in-Some.new.self } in
-      let A : Types → Type 0 = λ ts. Are c.args.self.now.operands ts in
-      let G : Types → Type 0 = λ ts. Gave (Are c.in-Some.open.below) (Are c.give_with.new.self) ts in
-      ends c2 c.args.self.now after c.in-Some.open c.pop.new.self.items ps c.in-Some.ensures.items refl
-        (labels_popped c.args.self.now.labels.items c.pop-in-Some.new.self.items c.pop-in-Some.result c.pop-in-Some.ensures.items c.pop-in-Some.ensures.variant.1)
-        (subst A (c.results_of.ensures c2) (c.if-not-finish.ensures.yes refl)) (c.if-not-may_end.ensures.yes refl)
-        (subst G (c.results_of-in-Some.ensures c2) c.in_ok-give_with-in-Some.ensures) h
-
+    let after : Walk = record { operands = c.give_with.new.self; opens = c.pop.new.self; labels = c.pop-in-Some.new.self } in
+    let A : Types → Type 0 = λ ts. Are c.args.self.now.operands ts in
+    let G : Types → Type 0 = λ ts. Gave (Are c.in-Some.open.below) (Are c.give_with.new.self) ts in
+    ends c2 c.args.self.now after c.in-Some.open c.pop.new.self.items ps c.in-Some.ensures.items refl
+    (labels_popped c.args.self.now.labels.items c.pop-in-Some.new.self.items c.pop-in-Some.result c.pop-in-Some.ensures.items c.pop-in-Some.ensures.variant.1)
+    (subst A (c.results_of.ensures c2) (c.if-not-finish.ensures.yes refl)) (c.if-not-may_end.ensures.yes refl)
+    (subst G (c.results_of-in-Some.ensures c2) c.in_ok-give_with-in-Some.ensures) h

@@ -1,13 +1,7 @@
-use Rattle.std.proofs.Common.{◌≡◌, [], ◌∷◌, ◌++◌, true, false, List, Option, Some, None, IfOk, refl, sym, ap, ◌∙◌, subst}
-use Rattle.wasm_values.specs.declared.number.ValType.{ValType}
-use Rattle.wasm_validate.specs.declared.operands.Operands.{Operands}
-use Rattle.wasm_validate.specs.declared.walk.Open.{Open}
+use Rattle.std.proofs.Common.{refl, sym, subst}
 use Rattle.wasm_validate.specs.declared.walk.Walk.{Walk}
-use Rattle.wasm_validate.specs.Typing.{Types, types_of}
-use Rattle.wasm_validate.specs.Open.{part_results, before_part}
-use Rattle.wasm_validate.specs.Operands.{Are, Exactly, Gave}
-use Rattle.wasm_validate.specs.Steps.{context_in, labels_in, Steps}
-use Rattle.wasm_validate.proofs.WalkLemmas.{opened}
+use Rattle.wasm_validate.specs.Typing.{Types}
+use Rattle.wasm_validate.specs.Operands.{Are}
 use Rattle.wasm_validate.proofs.WalkSteps.{turns, turns_not}
 use Rattle.wasm_validate.proofs.walk.Walk.turn.Goals as goal
 
@@ -18,8 +12,7 @@ returns-then-not-finish c =
 pub returns-in_ok-push_open-in-Some : goal.returns-in_ok-push_open-in-Some
 returns-in_ok-push_open-in-Some c =
     λ c2 ps e h.
-      let after : Walk = record { operands = c.new.result; opens = c.push_open.new.opens; labels = c.args.self.now.labels } in
-      let A : Types → Type 0 = λ ts. Are c.args.self.now.operands ts in
-      turns c2 c.args.self.now after c.in-Some.open c.pop.new.self.items ps c.in-Some.ensures.items c.in_ok-push_open-in-Some.ensures refl
-        (subst A (c.results_of.ensures c2) (c.if-not-finish.ensures.yes refl)) c.new.ensures.none h
-
+    let after : Walk = record { operands = c.new.result; opens = c.push_open.new.opens; labels = c.args.self.now.labels } in
+    let A : Types → Type 0 = λ ts. Are c.args.self.now.operands ts in
+    turns c2 c.args.self.now after c.in-Some.open c.pop.new.self.items ps c.in-Some.ensures.items c.in_ok-push_open-in-Some.ensures refl
+    (subst A (c.results_of.ensures c2) (c.if-not-finish.ensures.yes refl)) c.new.ensures.none h
