@@ -7,3 +7,4 @@ pub mod BodyLemmas
 pub mod ValidLemmas
 pub mod PartsLemmas
 pub mod PrefixLemmas
+pub mod RangeLemmas

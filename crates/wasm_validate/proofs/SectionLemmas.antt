@@ -1,7 +1,9 @@
 -- Walks over the entries of a section.
-use Rattle.std.proofs.Common.{◌≡◌, ℕ, ◌+◌, ◌<◌, ◌≤◌, List, [], ◌∷◌, ◌++◌, length, map, take, not, true, false, Bool, ◌||◌, if◌then◌else◌, slice_get, get_or, Option, Some, None, refl, sym, ap, ◌∙◌, subst, ◌⊎◌, inl, inr, arith}
+use Rattle.std.proofs.Common.{◌≡◌, ℕ, zero, suc, ◌+◌, ◌<◌, ◌≤◌, List, [], ◌∷◌, ◌++◌, length, map, take, not, true, false, Bool, ◌||◌, if◌then◌else◌, slice_get, get_or, Option, Some, None, refl, sym, ap, ◌∙◌, subst, ◌⊎◌, inl, inr, arith}
 use denote.Ref.{Bor}
-use Rattle.std.specs.List.{filter_map, cons_option, list_any}
+use Rattle.std.specs.List.{filter_map, cons_option, list_any, All}
+use Rattle.std.proofs.lemmas.List.Elements.{All-append}
+use Rattle.std.proofs.lemmas.List.{take_all}
 use Rattle.std.specs.Str.{bytes_eq}
 use Rattle.std.specs.Option.{is_some}
 use Rattle.std.proofs.lemmas.List.{take_more, length-append, map_push}
@@ -134,3 +136,37 @@ names_more {X} f xs ys n y names more e within read was is =
     let inside : n < length xs = subst P e within in
     is ∙ ap (λ zs. zs ++ f y ∷ []) was ∙ ap (λ (z : X). map f (take n xs) ++ f z ∷ []) (read ∙ ap (λ (zs : List X). get_or zs n y) e) ∙
     sym (ap (map f) (take_more xs n y inside) ∙ map_push f (take n xs) (get_or xs n y))
+
+-- what holds of each item that a walk has read
+pub each_more : {X : Type 0} (P : X → Type 0) (xs ys : List X) (n : ℕ) (y : X) → All P (take n xs) → ys ≡ xs → n < length ys → y ≡ get_or ys n y → P y → All P (take (n + 1) xs)
+each_more {X} P xs ys n y all e within read here =
+    let M : List X → Type 0 = λ zs. n < length zs in
+    let inside : n < length xs = subst M e within in
+    let same : y ≡ get_or xs n y = read ∙ ap (λ (zs : List X). get_or zs n y) e in
+    let Q : List X → Type 0 = λ zs. All P zs in
+    subst Q (sym (take_more xs n y inside)) (All-append P (take n xs) (get_or xs n y ∷ []) all (only (get_or xs n y) (subst P same here)))
+  where
+    only : (z : X) → P z → All P (z ∷ [])
+    only z p zero d h = p
+    only z p (suc k) d h = absurd (omega (arith, h))
+
+pub each_all : {X : Type 0} (P : X → Type 0) (xs ys : List X) (n : ℕ) → All P (take n xs) → ys ≡ xs → length ys ≤ n → All P xs
+each_all {X} P xs ys n all e h =
+    let M : List X → Type 0 = λ zs. length zs ≤ n in
+    let Q : List X → Type 0 = λ zs. All P zs in
+    subst Q (take_all n xs (subst M e h)) all
+
+pub of_item : {X : Type 0} (P : X → Type 0) (xs ys : List X) (n : ℕ) (y : X) → All P xs → ys ≡ xs → n < length ys → y ≡ get_or ys n y → P y
+of_item {X} P xs ys n y all e within read =
+    let M : List X → Type 0 = λ zs. n < length zs in
+    let same : y ≡ get_or xs n y = read ∙ ap (λ (zs : List X). get_or zs n y) e in
+    subst P (sym same) (all n y (subst M e within))
+
+pub each_more_at : {X : Type 0} (P : X → Type 0) (xs : List X) (n : ℕ) (d : X) → All P (take n xs) → n < length xs → P (get_or xs n d) → All P (take (n + 1) xs)
+each_more_at {X} P xs n d all within here =
+    let Q : List X → Type 0 = λ zs. All P zs in
+    subst Q (sym (take_more xs n d within)) (All-append P (take n xs) (get_or xs n d ∷ []) all (only (get_or xs n d) here))
+  where
+    only : (z : X) → P z → All P (z ∷ [])
+    only z p zero e h = p
+    only z p (suc k) e h = absurd (omega (arith, h))

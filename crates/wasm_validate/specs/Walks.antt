@@ -5,7 +5,7 @@ use Rattle.wasm_syntax.specs.declared.flat.Flat.TheVariants as flat
 use Rattle.wasm_syntax.specs.declared.flat.Head.{Head}
 use Rattle.wasm_syntax.specs.declared.flat.Head.TheVariants as head
 use Rattle.wasm_syntax.specs.FlatForm.{is_simple}
-use Rattle.wasm_syntax.specs.Trees.{sequence_of}
+use Rattle.wasm_syntax.specs.Trees.{sequence_of, instruction_of}
 use Rattle.wasm_syntax.specs.Parts.{Part, begun, with_instr, turned, closed_part}
 use Rattle.wasm_validate.specs.declared.fault.ValidWord.{ValidWord}
 use Rattle.wasm_validate.specs.declared.operands.Operands.{Operands}
@@ -13,6 +13,7 @@ use Rattle.wasm_validate.specs.declared.walk.Open.{Open}
 use Rattle.wasm_validate.specs.declared.walk.Walk.{Walk}
 use Rattle.wasm_validate.specs.Typing.{Context, types_of, SequenceTyped}
 use Rattle.wasm_validate.specs.Open.{labels_of, before_part, FirstSideTyped, PartsTyped}
+use Rattle.wasm_validate.specs.Valid.{InstructionInRange}
 use Rattle.wasm_validate.specs.Faults.{item_word}
 use Rattle.wasm_validate.specs.Operands.{Are, Exactly}
 use Rattle.wasm_validate.specs.Steps.{labels_in}
@@ -76,3 +77,8 @@ Leads false c w ps x = PartsTyped c None (then_inner ps x) → ⊥
 abbrev pub IsOneSimple : Flat → Type 0
 IsOneSimple (flat.One i) = IsTrue (is_simple i)
 IsOneSimple _ = Unit {0}
+
+-- The numbers of an item lie in their ranges.
+abbrev pub ItemInRange : Flat → Type 0
+ItemInRange (flat.One i) = InstructionInRange (instruction_of i)
+ItemInRange _ = Unit {0}

@@ -8,6 +8,7 @@ mod instrs;
 mod names;
 mod needs;
 mod operands;
+mod ranges;
 mod rows;
 mod scope;
 mod sections;

@@ -1,10 +1,11 @@
 ghost use Rattle.std.specs.Prelude.{◌≡◌};
-ghost use Rattle.wasm_validate.specs.Valid.{PartsValid};
+ghost use Rattle.wasm_validate.specs.Valid.{Valid};
 ghost use Rattle.wasm_validate.specs.Faults.{Marked, InvalidAt};
 ghost use Rattle.wasm_validate.specs.Answers.{Answers};
 
 use crate::check::check_module;
 use crate::fault::ValidFault;
+use crate::ranges::read_numbers;
 use std::alloc::Global;
 use std::marker::Model;
 use wasm_syntax::{Marks, Module};
@@ -18,7 +19,7 @@ pub struct ValidModule {
 impl Model for ValidModule {
     ghost use Rattle.wasm_syntax.specs.declared.module.Module.{Module};
     ghost use Rattle.wasm_syntax.specs.contracts.module.Module as of_module;
-    ghost use Rattle.wasm_validate.specs.Valid.{PartsValid};
+    ghost use Rattle.wasm_validate.specs.Valid.{Valid};
 
     ghost Value = { Module };
 
@@ -26,14 +27,14 @@ impl Model for ValidModule {
 
     ghost view = { λ v. v.module };
 
-    ghost invariant = { λ v. PartsValid v.module };
+    ghost invariant = { λ v. Valid v.module };
 }
 
 impl ValidModule {
     /// The module, lent.
     pub fn module(&self) -> &Module
         ensures same { result.now ≡ self.now }
-        ensures valid { PartsValid self.now }
+        ensures valid { Valid self.now }
     {
         &self.module
     }
@@ -42,10 +43,13 @@ impl ValidModule {
 /// Tells whether a module is valid, or else the place and word of its first fault. A refusal drops the module.
 pub fn validate(alloc: Global, module: Module, marks: &Marks) -> Result<ValidModule, ValidFault>
     requires { Marked «module» marks.now }
-    ensures { Answers (λ v. (v ≡ «module») × PartsValid «module») (λ at w. InvalidAt «module» marks.now at w × (PartsValid «module» → ⊥)) result }
+    ensures { Answers (λ v. (v ≡ «module») × Valid «module») (λ at w. InvalidAt «module» marks.now at w × (Valid «module» → ⊥)) result }
 {
     match check_module(alloc, &module, marks) {
-        Ok(()) => Ok(ValidModule { module }),
+        Ok(()) => {
+            read_numbers(&module);
+            Ok(ValidModule { module })
+        }
         Err(fault) => Err(fault),
     }
 }
