@@ -1,0 +1,8 @@
+use Rattle.std.proofs.Common.{◌<◌, take}
+use Rattle.std.specs.List.{All}
+use Rattle.wasm_syntax.specs.Trees.{sequence_of}
+use Rattle.wasm_validate.specs.Valid.{IsWord, SequenceInRange, LimitsInRange, BytesInRange, ImportInRange, ExportInRange}
+use Rattle.wasm_validate.proofs.ranges.read_all_limits.Given as goal
+
+abbrev pub invariant-loop-one : goal.invariant-loop-one
+invariant-loop-one l = All (LimitsInRange) (take l.one-index l.limits)

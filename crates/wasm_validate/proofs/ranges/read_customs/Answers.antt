@@ -1,0 +1,17 @@
+use Rattle.std.proofs.Common.{◌<◌, refl}
+use Rattle.std.specs.List.{All}
+use Rattle.wasm_syntax.specs.Trees.{sequence_of}
+use Rattle.wasm_validate.specs.Valid.{IsWord, SequenceInRange, LimitsInRange, BytesInRange, ImportInRange, ExportInRange, imported_globals_of, globals_of, GlobalValid, ElemValid, SegmentValid}
+use Rattle.std.proofs.Common.{List, ap, ◌∙◌, subst}
+use Rattle.wasm_values.specs.declared.number.ValType.TheVariants.{I32}
+use Rattle.wasm_syntax.specs.declared.instr.Instr.{Instr}
+use Rattle.wasm_syntax.specs.declared.module.Custom.{Custom}
+use Rattle.wasm_validate.specs.Valid.{const_type}
+use Rattle.wasm_validate.proofs.SectionLemmas.{each_more, each_all, of_item}
+use Rattle.wasm_validate.proofs.ranges.read_customs.Goals as goal
+
+pub loop-custom-preserved : goal.loop-custom-preserved
+loop-custom-preserved c = each_more (λ (s : Custom). (s.after < 256) × BytesInRange s.name × BytesInRange s.bytes) c.args.module.now.customs c.as_slice-custom-items.result.now c.loop-custom.custom-index c.custom-item.result c.loop-custom.invariant c.as_slice-custom-items.ensures c.loop-custom-test.true c.custom-item.is c.read_one_custom.ensures
+
+pub returns : goal.returns
+returns c = each_all (λ (s : Custom). (s.after < 256) × BytesInRange s.name × BytesInRange s.bytes) c.args.module.now.customs c.as_slice-custom-items.result.now c.loop-custom.custom-index c.loop-custom.invariant c.as_slice-custom-items.ensures c.loop-custom-test.false

@@ -1,0 +1,17 @@
+use Rattle.std.proofs.Common.{◌<◌, refl}
+use Rattle.std.specs.List.{All}
+use Rattle.wasm_syntax.specs.Trees.{sequence_of}
+use Rattle.wasm_validate.specs.Valid.{IsWord, SequenceInRange, LimitsInRange, BytesInRange, ImportInRange, ExportInRange, imported_globals_of, globals_of, GlobalValid, ElemValid, SegmentValid}
+use Rattle.std.proofs.Common.{List, ap, ◌∙◌, subst}
+use Rattle.wasm_values.specs.declared.number.ValType.TheVariants.{I32}
+use Rattle.wasm_syntax.specs.declared.instr.Instr.{Instr}
+use Rattle.wasm_syntax.specs.declared.module.Elem.{Elem}
+use Rattle.wasm_validate.specs.Valid.{const_type}
+use Rattle.wasm_validate.proofs.SectionLemmas.{each_more, each_all, of_item}
+use Rattle.wasm_validate.proofs.ranges.read_elems.Goals as goal
+
+pub loop-elem-preserved : goal.loop-elem-preserved
+loop-elem-preserved c = each_more (λ (e : Elem). IsWord e.table × SequenceInRange (sequence_of e.offset) × All IsWord e.funcs) c.args.module.now.elems c.as_slice-elem-items.result.now c.loop-elem.elem-index c.elem-item.result c.loop-elem.invariant c.as_slice-elem-items.ensures c.loop-elem-test.true c.elem-item.is (c.read_one_elem.ensures (globals_of c.args.module.now) I32 (of_item (ElemValid c.args.module.now) c.args.module.now.elems c.as_slice-elem-items.result.now c.loop-elem.elem-index c.elem-item.result c.requires c.as_slice-elem-items.ensures c.loop-elem-test.true c.elem-item.is).1)
+
+pub returns : goal.returns
+returns c = each_all (λ (e : Elem). IsWord e.table × SequenceInRange (sequence_of e.offset) × All IsWord e.funcs) c.args.module.now.elems c.as_slice-elem-items.result.now c.loop-elem.elem-index c.loop-elem.invariant c.as_slice-elem-items.ensures c.loop-elem-test.false

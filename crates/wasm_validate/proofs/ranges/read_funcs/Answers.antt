@@ -1,0 +1,17 @@
+use Rattle.std.proofs.Common.{◌<◌, refl}
+use Rattle.std.specs.List.{All}
+use Rattle.wasm_syntax.specs.Trees.{sequence_of}
+use Rattle.wasm_validate.specs.Valid.{IsWord, SequenceInRange, LimitsInRange, BytesInRange, ImportInRange, ExportInRange, imported_globals_of, globals_of, GlobalValid, ElemValid, SegmentValid}
+use Rattle.std.proofs.Common.{List, ap, ◌∙◌, subst}
+use Rattle.wasm_values.specs.declared.number.ValType.TheVariants.{I32}
+use Rattle.wasm_syntax.specs.declared.instr.Instr.{Instr}
+use Rattle.wasm_syntax.specs.declared.module.Func.{Func}
+use Rattle.wasm_validate.specs.Valid.{const_type}
+use Rattle.wasm_validate.proofs.SectionLemmas.{each_more, each_all, of_item}
+use Rattle.wasm_validate.proofs.ranges.read_funcs.Goals as goal
+
+pub loop-func-preserved : goal.loop-func-preserved
+loop-func-preserved c = each_more (λ (f : Func). IsWord f.ty × SequenceInRange (sequence_of f.body)) c.args.module.now.funcs c.as_slice-func-items.result.now c.loop-func.func-index c.func-item.result c.loop-func.invariant c.as_slice-func-items.ensures c.loop-func-test.true c.func-item.is c.read_one_func.ensures
+
+pub returns : goal.returns
+returns c = each_all (λ (f : Func). IsWord f.ty × SequenceInRange (sequence_of f.body)) c.args.module.now.funcs c.as_slice-func-items.result.now c.loop-func.func-index c.loop-func.invariant c.as_slice-func-items.ensures c.loop-func-test.false

@@ -1,0 +1,17 @@
+use Rattle.std.proofs.Common.{◌<◌, refl}
+use Rattle.std.specs.List.{All}
+use Rattle.wasm_syntax.specs.Trees.{sequence_of}
+use Rattle.wasm_validate.specs.Valid.{IsWord, SequenceInRange, LimitsInRange, BytesInRange, ImportInRange, ExportInRange, imported_globals_of, globals_of, GlobalValid, ElemValid, SegmentValid}
+use Rattle.std.proofs.Common.{List, ap, ◌∙◌, subst}
+use Rattle.wasm_values.specs.declared.number.ValType.TheVariants.{I32}
+use Rattle.wasm_syntax.specs.declared.instr.Instr.{Instr}
+use Rattle.wasm_syntax.specs.declared.module.Segment.{Segment}
+use Rattle.wasm_validate.specs.Valid.{const_type}
+use Rattle.wasm_validate.proofs.SectionLemmas.{each_more, each_all, of_item}
+use Rattle.wasm_validate.proofs.ranges.read_segments.Goals as goal
+
+pub loop-segment-preserved : goal.loop-segment-preserved
+loop-segment-preserved c = each_more (λ (s : Segment). IsWord s.memory × SequenceInRange (sequence_of s.offset) × BytesInRange s.bytes) c.args.module.now.segments c.as_slice-segment-items.result.now c.loop-segment.segment-index c.segment-item.result c.loop-segment.invariant c.as_slice-segment-items.ensures c.loop-segment-test.true c.segment-item.is (c.read_one_segment.ensures (globals_of c.args.module.now) I32 (of_item (SegmentValid c.args.module.now) c.args.module.now.segments c.as_slice-segment-items.result.now c.loop-segment.segment-index c.segment-item.result c.requires c.as_slice-segment-items.ensures c.loop-segment-test.true c.segment-item.is).1)
+
+pub returns : goal.returns
+returns c = each_all (λ (s : Segment). IsWord s.memory × SequenceInRange (sequence_of s.offset) × BytesInRange s.bytes) c.args.module.now.segments c.as_slice-segment-items.result.now c.loop-segment.segment-index c.loop-segment.invariant c.as_slice-segment-items.ensures c.loop-segment-test.false
