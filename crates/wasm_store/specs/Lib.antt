@@ -1,0 +1,4 @@
+pub mod Configuration
+pub mod Coding
+pub mod Seen
+pub mod Readers
