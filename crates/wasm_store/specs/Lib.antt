@@ -2,3 +2,7 @@ pub mod Configuration
 pub mod Coding
 pub mod Seen
 pub mod Readers
+pub mod Numeric
+pub mod Memory
+pub mod Control
+pub mod Step

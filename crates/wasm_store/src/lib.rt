@@ -3,6 +3,7 @@
 #![tactic(auto)]
 
 mod config;
+pub mod laws;
 mod read;
 mod store;
 #[cfg(test)]
