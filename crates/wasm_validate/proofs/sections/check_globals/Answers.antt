@@ -1,0 +1,16 @@
+use Rattle.wasm_validate.specs.Faults.{global_fault}
+use Rattle.wasm_validate.proofs.SectionLemmas.{none_more_read, none_at_end, first_fault_read}
+use Rattle.wasm_validate.proofs.sections.check_globals.Goals as goal
+
+pub loop-n-preserved : goal.loop-n-preserved
+loop-n-preserved c =
+    none_more_read (λ n. global_fault c.args.module.now) c.args.module.now.globals c.as_slice-global-items.result.now c.loop-n.n c.global-item.result c.fault_of_global.result
+    c.loop-n.invariant c.as_slice-global-items.ensures c.loop-n-test.true c.global-item.is c.fault_of_global.ensures c.in_default.is
+
+pub returns : goal.returns
+returns c = none_at_end (λ n. global_fault c.args.module.now) c.args.module.now.globals c.as_slice-global-items.result.now c.loop-n.n c.as_slice-global-items.ensures c.loop-n-test.false c.loop-n.invariant
+
+pub returns-in-Some : goal.returns-in-Some
+returns-in-Some c =
+    first_fault_read (λ n. global_fault c.args.module.now) c.args.module.now.globals c.as_slice-global-items.result.now c.args.places.now c.loop-n.n c.global-item.result c.fault_of_global.result c.in-Some.word
+    c.loop-n.invariant c.as_slice-global-items.ensures c.loop-n-test.true c.global-item.is c.fault_of_global.ensures c.in-Some.is c.requires.places

@@ -1,0 +1,5 @@
+pub mod Typing
+pub mod Open
+pub mod Valid
+pub mod Faults
+pub mod Answers

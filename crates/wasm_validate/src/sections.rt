@@ -1,0 +1,211 @@
+// The sections but that of bodies, each entry in the order of the file.
+
+ghost use Rattle.std.specs.Prelude.{◌≡◌, ◌+◌, ◌++◌, [], ◌∷◌, length, IfSome, None, not, true};
+ghost use Rattle.std.specs.List.{filter_map, list_any};
+ghost use Rattle.std.specs.Str.{bytes_eq};
+ghost use Rattle.wasm_syntax.specs.declared.module.Import.{Import};
+ghost use Rattle.wasm_validate.specs.Valid.{table_import, memory_import};
+ghost use Rattle.wasm_validate.specs.Faults.{type_fault, func_fault, import_fault, module_table_fault, module_memory_fault, global_fault, start_fault, elem_fault, segment_fault, export_fault, export_row, NoFault, FirstFault, StartFault};
+ghost use Rattle.wasm_validate.specs.Answers.{Answers, IsScopeOf, texts_of};
+
+use crate::fault::{ValidFault, ValidWord};
+use crate::rows;
+use crate::scope::Scope;
+use indexmap::IndexSet;
+use std::alloc::Global;
+use wasm_syntax::{Export, FuncType, Module};
+
+pub(crate) fn check_types(types: &[FuncType], places: &[usize]) -> Result<(), ValidFault>
+    requires { length places.now ≡ length types.now }
+    ensures { Answers (λ done. NoFault (λ n. type_fault) types.now) (FirstFault (λ n. type_fault) types.now places.now) result }
+{
+    for (n, ty) in types.iter().enumerate() {
+        if let Some(word) = rows::fault_of_type(ty) {
+            return Err(ValidFault::Invalid {
+                at: places[n],
+                word,
+            });
+        }
+    }
+    Ok(())
+}
+
+pub(crate) fn check_imports(module: &Module, places: &[usize]) -> Result<(), ValidFault>
+    requires { length places.now ≡ length «module».now.imports }
+    ensures { Answers (λ done. NoFault (import_fault «module».now) «module».now.imports) (FirstFault (import_fault «module».now) «module».now.imports places.now) result }
+{
+    let mut tables: usize = 0;
+    let mut memories: usize = 0;
+    for (n, import) in module.imports.as_slice().iter().enumerate() {
+        if let Some(word) = rows::fault_of_import(module, tables, memories, &import.kind) {
+            return Err(ValidFault::Invalid {
+                at: places[n],
+                word,
+            });
+        }
+        tables += rows::table_count(&import.kind);
+        memories += rows::memory_count(&import.kind);
+    }
+    Ok(())
+}
+
+pub(crate) fn check_funcs(module: &Module, places: &[usize]) -> Result<(), ValidFault>
+    requires { length places.now ≡ length «module».now.funcs }
+    ensures { Answers (λ done. NoFault (λ n. func_fault «module».now) «module».now.funcs) (FirstFault (λ n. func_fault «module».now) «module».now.funcs places.now) result }
+{
+    for (n, func) in module.funcs.as_slice().iter().enumerate() {
+        if let Some(word) = rows::fault_of_func(module, func) {
+            return Err(ValidFault::Invalid {
+                at: places[n],
+                word,
+            });
+        }
+    }
+    Ok(())
+}
+
+pub(crate) fn check_tables(module: &Module, imported: usize, places: &[usize]) -> Result<(), ValidFault>
+    requires places { length places.now ≡ length «module».now.tables }
+    requires imported { imported ≡ length (filter_map (λ (i : Import). table_import i.kind) «module».now.imports) }
+    ensures { Answers (λ done. NoFault (module_table_fault «module».now) «module».now.tables) (FirstFault (module_table_fault «module».now) «module».now.tables places.now) result }
+{
+    for (n, limits) in module.tables.as_slice().iter().enumerate() {
+        if let Some(word) = rows::fault_of_defined_table(imported, n, limits) {
+            return Err(ValidFault::Invalid {
+                at: places[n],
+                word,
+            });
+        }
+    }
+    Ok(())
+}
+
+pub(crate) fn check_memories(module: &Module, imported: usize, places: &[usize]) -> Result<(), ValidFault>
+    requires places { length places.now ≡ length «module».now.memories }
+    requires imported { imported ≡ length (filter_map (λ (i : Import). memory_import i.kind) «module».now.imports) }
+    ensures { Answers (λ done. NoFault (module_memory_fault «module».now) «module».now.memories) (FirstFault (module_memory_fault «module».now) «module».now.memories places.now) result }
+{
+    for (n, limits) in module.memories.as_slice().iter().enumerate() {
+        if let Some(word) = rows::fault_of_defined_memory(imported, n, limits) {
+            return Err(ValidFault::Invalid {
+                at: places[n],
+                word,
+            });
+        }
+    }
+    Ok(())
+}
+
+pub(crate) fn check_globals(module: &Module, scope: &Scope, places: &[usize]) -> Result<(), ValidFault>
+    requires places { length places.now ≡ length «module».now.globals }
+    requires scope { IsScopeOf «module».now scope.now }
+    ensures { Answers (λ done. NoFault (λ n. global_fault «module».now) «module».now.globals) (FirstFault (λ n. global_fault «module».now) «module».now.globals places.now) result }
+{
+    for (n, global) in module.globals.as_slice().iter().enumerate() {
+        if let Some(word) = rows::fault_of_global(module, scope, global) {
+            return Err(ValidFault::Invalid {
+                at: places[n],
+                word,
+            });
+        }
+    }
+    Ok(())
+}
+
+pub(crate) fn check_elems(module: &Module, scope: &Scope, places: &[usize]) -> Result<(), ValidFault>
+    requires places { length places.now ≡ length «module».now.elems }
+    requires scope { IsScopeOf «module».now scope.now }
+    ensures { Answers (λ done. NoFault (λ n. elem_fault «module».now) «module».now.elems) (FirstFault (λ n. elem_fault «module».now) «module».now.elems places.now) result }
+{
+    for (n, elem) in module.elems.as_slice().iter().enumerate() {
+        if let Some(word) = rows::fault_of_elem(module, scope, elem) {
+            return Err(ValidFault::Invalid {
+                at: places[n],
+                word,
+            });
+        }
+    }
+    Ok(())
+}
+
+pub(crate) fn check_segments(module: &Module, scope: &Scope, places: &[usize]) -> Result<(), ValidFault>
+    requires places { length places.now ≡ length «module».now.segments }
+    requires scope { IsScopeOf «module».now scope.now }
+    ensures { Answers (λ done. NoFault (λ n. segment_fault «module».now) «module».now.segments) (FirstFault (λ n. segment_fault «module».now) «module».now.segments places.now) result }
+{
+    for (n, segment) in module.segments.as_slice().iter().enumerate() {
+        if let Some(word) = rows::fault_of_segment(module, scope, segment) {
+            return Err(ValidFault::Invalid {
+                at: places[n],
+                word,
+            });
+        }
+    }
+    Ok(())
+}
+
+/// Adds a name of an export, and tells whether it is a new one.
+fn add_name<'a>(names: &mut IndexSet<&'a str>, name: &'a str) -> Result<bool, ValidFault>
+    ensures added { Answers
+        (λ is_new. (is_new ≡ not (list_any (bytes_eq name.now) (texts_of names.old.keys)))
+            × (is_new ≡ true → texts_of names.new.keys ≡ texts_of names.old.keys ++ name.now ∷ []))
+        (λ at w. ⊥)
+        result }
+{
+    match names.insert(name) {
+        Ok(is_new) => Ok(is_new),
+        Err(_) => Err(ValidFault::OutOfMemory),
+    }
+}
+
+/// The fault of an export after those of these names. Its name is added where it has none.
+fn fault_of_export<'a>(module: &Module, scope: &Scope, names: &mut IndexSet<&'a str>, export: &'a Export) -> Result<Option<ValidWord>, ValidFault>
+    requires { IsScopeOf «module».now scope.now }
+    ensures fault { Answers
+        (λ fault. (fault ≡ export_row «module».now (texts_of names.old.keys) export.now)
+            × (fault ≡ None → texts_of names.new.keys ≡ texts_of names.old.keys ++ export.now.name ∷ []))
+        (λ at w. ⊥)
+        result }
+{
+    if !rows::names_some(module, scope, export.kind) {
+        return Ok(Some(ValidWord::Index));
+    }
+    if add_name(names, export.name.as_str())? {
+        Ok(None)
+    } else {
+        Ok(Some(ValidWord::Export))
+    }
+}
+
+pub(crate) fn check_exports(alloc: Global, module: &Module, scope: &Scope, places: &[usize]) -> Result<(), ValidFault>
+    requires places { length places.now ≡ length «module».now.exports }
+    requires scope { IsScopeOf «module».now scope.now }
+    ensures { Answers (λ done. NoFault (export_fault «module».now) «module».now.exports) (FirstFault (export_fault «module».now) «module».now.exports places.now) result }
+{
+    let mut names = IndexSet::new(alloc);
+    for (n, export) in module.exports.as_slice().iter().enumerate() {
+        if let Some(word) = fault_of_export(module, scope, &mut names, export)? {
+            return Err(ValidFault::Invalid {
+                at: places[n],
+                word,
+            });
+        }
+    }
+    Ok(())
+}
+
+pub(crate) fn check_start(module: &Module, scope: &Scope, place: usize) -> Result<(), ValidFault>
+    requires { IsScopeOf «module».now scope.now }
+    ensures { Answers
+        (λ done. IfSome «module».now.start (λ f. start_fault «module».now f ≡ None))
+        (StartFault «module».now «module».now.start place)
+        result }
+{
+    match module.start {
+        Some(func) => match rows::fault_of_start(module, scope, func) {
+            Some(word) => Err(ValidFault::Invalid { at: place, word }),
+            None => Ok(()),
+        },
+        None => Ok(()),
+    }
+}
