@@ -1,4 +1,4 @@
--- Typed frames (Core Specification, appendix A.5.4, 'Configuration Validity'). Types of operands stand with the topmost
+-- Typed frames (Core Specification, appendix 'Soundness', 'Configuration Validity'). Types of operands stand with the topmost
 -- first.
 use Rattle.std.specs.Prelude.{◌≡◌, ℕ, List, [], ◌∷◌, ◌++◌, Option, Some, None, length, reverse, slice_get, All}
 use Rattle.wasm_values.specs.declared.number.Val.{Val}
@@ -21,7 +21,7 @@ AgainTyped c labels None taken wanted = taken ≡ wanted
 AgainTyped c labels (Some body) taken wanted = (taken ≡ []) × CodeTyped c labels body [] wanted
 
 -- An open block waits, over these operands, for results of the wanted types: the code after it is typed over them and the
--- block's own share of the operands below, and what is around it waits for what that code leaves (A.5.4, labels).
+-- block's own share of the operands below, and what is around it waits for what that code leaves ('Configuration Validity', labels).
 pub record BlockTyped (c : Context) (l : OpenBlock) (below : List Val) (labels : List Types) (wanted : Types) (around : List Val → List Types → Types → Type 0) : Type 0 where
   pub taken : Types
   pub outer : List Types
@@ -37,13 +37,13 @@ pub record BlockTyped (c : Context) (l : OpenBlock) (below : List Val) (labels :
   pub around_it : around under outer next
 
 -- The open blocks of a frame, the innermost first, over these operands. Outside them is the function's own label, which
--- takes its results (A.5.4, labels and frames).
+-- takes its results ('Configuration Validity', labels and frames).
 abbrev pub BlocksTyped : Context → List OpenBlock → (below : List Val) → (labels : List Types) → (wanted : Types) → Type 0
 BlocksTyped c [] below labels wanted = (below ≡ []) × (labels ≡ c.results ∷ []) × (wanted ≡ c.results)
 BlocksTyped c (l ∷ ls) below labels wanted = BlockTyped c l below labels wanted (BlocksTyped c ls)
 
 -- A frame that will be given operands of some types, and then leaves its function's results: its locals have the types of
--- its context, and its code is typed over its operands (A.5.4, frames).
+-- its context, and its code is typed over its operands ('Configuration Validity', frames).
 pub record FrameTyped (s : Shape) (f : Activation) (given results : Types) : Type 0 where
   pub ty : FuncType
   pub code : ℕ

@@ -1,4 +1,4 @@
--- What type safety says (Core Specification, appendix A.5.5, 'Theorems').
+-- What type safety says (Core Specification, appendix 'Soundness', 'Theorems').
 use Rattle.std.specs.Prelude.{◌≡◌, List, [], ◌∷◌}
 use Rattle.wasm_store.specs.declared.config.Outcome.TheVariants.{Running}
 use Rattle.wasm_store.specs.Configuration.{Layer, OfCode, OfHost, Configuration}
@@ -9,7 +9,7 @@ use Rattle.type_safety.specs.Typed.{Typed}
 abbrev pub Preserves : (Configuration → Configuration → Type 0) → Type 0
 Preserves relation = (c d : Configuration) → Typed c → relation c d → Typed d
 
--- Preservation: each step of a typed configuration gives a typed one (A.5.5).
+-- Preservation: each step of a typed configuration gives a typed one ('Theorems').
 abbrev pub Preservation : Type 0
 Preservation = Preserves Step
 
@@ -19,6 +19,6 @@ HasCodeOnTop [] = ⊥
 HasCodeOnTop (OfCode f ∷ below) = Unit {0}
 HasCodeOnTop (OfHost func args given ∷ below) = ⊥
 
--- Progress: a typed running configuration whose top frame is of code has a step (A.5.5).
+-- Progress: a typed running configuration whose top frame is of code has a step ('Theorems').
 abbrev pub Progress : Type 0
 Progress = (c : Configuration) → Typed c → c.outcome ≡ Running → HasCodeOnTop c.frames → CanStep c

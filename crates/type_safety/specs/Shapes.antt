@@ -1,4 +1,4 @@
--- What typing reads of a store, and the contexts of instances (Core Specification, appendix A.5, 'Soundness').
+-- What typing reads of a store, and the contexts of instances (Core Specification, appendix 'Soundness').
 use Rattle.std.specs.Prelude.{◌≡◌, ℕ, ◌<◌, List, Option, Some, length, map, option_map, slice_get, All}
 use Rattle.wasm_values.specs.declared.number.Val.{Val}
 use Rattle.wasm_values.specs.declared.number.ValType.{ValType}
@@ -48,7 +48,7 @@ abbrev pub func_type_at : Shape → ℕ → Option FuncType
 func_type_at s a = option_map type_of_inst (slice_get s.funcs a)
 
 -- A context is that of an instance: it has the instance's types, the types of the functions and globals at the instance's
--- addresses, all of which exist, and as many tables and memories (section 3.1.1; A.5.3, 'Module Instances'). The limits of
+-- addresses, all of which exist, and as many tables and memories (section 3.1.1; 'Store Validity', module instances). The limits of
 -- tables and memories may be any, since no rule for code reads them.
 pub record IsContextOf (s : Shape) (i : Instance) (c : Context) : Type 0 where
   pub types : c.types ≡ i.types
@@ -57,7 +57,7 @@ pub record IsContextOf (s : Shape) (i : Instance) (c : Context) : Type 0 where
   pub tables : length c.tables ≡ length i.tables
   pub memories : length c.memories ≡ length i.memories
 
--- What an extern names exists (A.5.3, 'Export Instances').
+-- What an extern names exists ('Store Validity', export instances).
 abbrev pub ExternExists : Shape → Extern → Type 0
 ExternExists s (Func a) = a < length s.funcs
 ExternExists s (Table a) = a < s.tables

@@ -1,4 +1,4 @@
--- Typed stores (Core Specification, appendix A.5.3, 'Store Validity').
+-- Typed stores (Core Specification, appendix 'Soundness', 'Store Validity').
 use Rattle.std.specs.Prelude.{◌≡◌, ℕ, ◌*◌, ◌<◌, ◌≤◌, ◌++◌, Some, IfSome, length, reverse, slice_get, All}
 use Rattle.wasm_values.specs.Operators.{type_of}
 use Rattle.wasm_syntax.specs.declared.module.FuncType.{FuncType}
@@ -15,7 +15,7 @@ use Rattle.wasm_store.specs.declared.store.Instance.{Instance}
 use Rattle.wasm_store.specs.declared.store.Store.{Store}
 use Rattle.type_safety.specs.Shapes.{Shape, shape_of, IsContextOf, ExternExists}
 
--- A function of code has its type in its instance, and its body is valid there (A.5.3, 'Function Instances').
+-- A function of code has its type in its instance, and its body is valid there ('Function Instances').
 pub record FuncTyped (s : Shape) (ty : FuncType) (instance code : ℕ) : Type 0 where
   pub inst : Instance
   pub inst_there : slice_get s.instances instance ≡ Some inst
@@ -29,20 +29,20 @@ pub record FuncTyped (s : Shape) (ty : FuncType) (instance code : ℕ) : Type 0 
   pub body : BodyTyped context (sequence_of fn.body)
   pub ranges : SequenceInRange (sequence_of fn.body)
 
--- A function of code is typed as above; one of a host has any type with at most one result (A.5.3, 'Host Function
+-- A function of code is typed as above; one of a host has any type with at most one result ('Host Function
 -- Instances').
 abbrev pub FuncInstTyped : Shape → FuncInst → Type 0
 FuncInstTyped s (Code ty instance code) = TypeValid ty × FuncTyped s ty instance code
 FuncInstTyped s (Host ty) = TypeValid ty
 
--- A table's entries are empty or functions that exist, at most 4,294,967,295 of them and at most its maximum (A.5.3, 'Table
+-- A table's entries are empty or functions that exist, at most 4,294,967,295 of them and at most its maximum ('Table
 -- Instances').
 pub record TableTyped (s : Shape) (t : TableInst) : Type 0 where
   pub entries : All (λ entry. IfSome entry (λ a. a < length s.funcs)) t.entries
   pub few : length t.entries ≤ 4294967295
   pub max : IfSome t.max (λ max. length t.entries ≤ max)
 
--- A memory is bytes, a whole number of pages, at most 65,536 and at most its maximum (A.5.3, 'Memory Instances').
+-- A memory is bytes, a whole number of pages, at most 65,536 and at most its maximum ('Memory Instances').
 pub record MemoryTyped (m : MemInst) : Type 0 where
   pub bytes : All (λ b. b < 256) m.bytes
   pub pages : ℕ
@@ -50,11 +50,11 @@ pub record MemoryTyped (m : MemInst) : Type 0 where
   pub few : pages ≤ 65536
   pub max : IfSome m.max (λ max. pages ≤ max)
 
--- A global's value has its type (A.5.3, 'Global Instances').
+-- A global's value has its type ('Global Instances').
 abbrev pub GlobalTyped : GlobalInst → Type 0
 GlobalTyped g = (type_of g.value ≡ g.ty.value) × ValInRange g.value
 
--- An instance's types have at most one result each, and its addresses and exports name what exists (A.5.3, 'Module
+-- An instance's types have at most one result each, and its addresses and exports name what exists ('Module
 -- Instances'). It has at most one table and one memory. The functions of its element segments exist.
 pub record InstanceTyped (s : Shape) (i : Instance) : Type 0 where
   pub types : All TypeValid i.types

@@ -1,4 +1,4 @@
--- Typed configurations (Core Specification, appendix A.5).
+-- Typed configurations (Core Specification, appendix 'Soundness').
 use Rattle.std.specs.Prelude.{◌≡◌, List, [], ◌∷◌, All}
 use Rattle.wasm_validate.specs.Valid.{ValInRange}
 use Rattle.wasm_store.specs.declared.config.Outcome.{Outcome}
@@ -15,7 +15,7 @@ OutcomeTyped Running (l ∷ ls) = Unit {0}
 OutcomeTyped (Done values) frames = (frames ≡ []) × All ValInRange values
 OutcomeTyped Trapped frames = frames ≡ []
 
--- A configuration is typed: its store is, and its frames are, of which the top one waits for nothing (A.5.4).
+-- A configuration is typed: its store is, and its frames are, of which the top one waits for nothing ('Configuration Validity').
 pub record Typed (c : Configuration) : Type 0 where
   pub store : StoreTyped c.store
   pub outcome : OutcomeTyped c.outcome c.frames

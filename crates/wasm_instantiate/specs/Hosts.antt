@@ -1,4 +1,4 @@
--- What hosts and the embedder do (Core Specification, sections 4.4.7, 'Host Functions', and 7.1). The standard lets a host
+-- What hosts and the embedder do (Core Specification, section 4.4.7, 'Host Functions'). The standard lets a host
 -- function change the store in any way that keeps it valid; which ways these are here is the project's own.
 use Rattle.std.specs.Prelude.{◌≡◌, ℕ, ◌+◌, ◌<◌, ◌≤◌, Bool, true, ◌&&◌, nat_le, List, [], ◌∷◌, ◌++◌, length, reverse, replicate, slice_get, slice_set, Option, Some, None, IsTrue}
 use Rattle.wasm_values.specs.declared.number.Val.{Val}

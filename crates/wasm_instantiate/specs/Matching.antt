@@ -62,7 +62,7 @@ does_match s types (Memory a) (import.Memory l) = is_memory_within (slice_get s.
 does_match s types (Global a) (import.Global g) = is_global_of_type (slice_get s.globals a) g
 does_match s types _ _ = false
 
--- Externs match a module's imports: there are as many, and each matches its import (section 4.5.4, steps 2 to 4).
+-- Externs match a module's imports: there are as many, and each matches its import (section 4.5.4, steps 3 and 4).
 pub record MatchImports (s : Store) (m : Module) (externs : List Extern) : Type 0 where
   pub count : length externs ≡ length m.imports
   pub each : (k : ℕ) (e : Extern) (i : Import) → slice_get externs k ≡ Some e → slice_get m.imports k ≡ Some i → IsTrue (does_match s m.types e i.kind)

@@ -1,5 +1,5 @@
 -- What a host or the embedder can lay hands on. These words are the project's own; the standard's embedder may do anything
--- with what it is given (Core Specification, section 7.1).
+-- with what it is given (Core Specification, appendix 'Embedding').
 use Rattle.std.specs.Prelude.{◌≡◌, ℕ, List, Some, ◌⊎◌, slice_get}
 use Rattle.wasm_syntax.specs.declared.module.FuncType.{FuncType}
 use Rattle.wasm_store.specs.declared.store.FuncInst.TheVariants.{Host}

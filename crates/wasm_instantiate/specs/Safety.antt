@@ -1,4 +1,4 @@
--- What type safety says of sessions (Core Specification, appendix A.5.5).
+-- What type safety says of sessions (Core Specification, appendix 'Soundness').
 use Rattle.std.specs.Prelude.{ℕ, List}
 use Rattle.wasm_store.specs.Configuration.{Configuration}
 use Rattle.type_safety.specs.Typed.{Typed}

@@ -138,11 +138,11 @@ abbrev pub is_at_most : ℕ → Option ℕ → Bool
 is_at_most n None = true
 is_at_most n (Some bound) = nat_le n bound
 
--- A memory can grow by so many pages: there are then at most 65,536, and at most its maximum (section 4.5.3.9).
+-- A memory can grow by so many pages: there are then at most 65,536, and at most its maximum (section 4.5.3.7).
 abbrev pub can_grow : MemInst → (pages : ℕ) → Bool
 can_grow mem pages = nat_le (pages_of mem + pages) 65536 && is_at_most (pages_of mem + pages) mem.max
 
--- The bytes of a memory after it has grown by pages of zeros (section 4.5.3.9).
+-- The bytes of a memory after it has grown by pages of zeros (section 4.5.3.7).
 abbrev pub grown_bytes : MemInst → (pages : ℕ) → List ℕ
 grown_bytes mem pages = mem.bytes ++ replicate (65536 * pages) 0
 
