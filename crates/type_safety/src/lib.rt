@@ -4,7 +4,7 @@
 ghost use Rattle.std.specs.Prelude.{◌≡◌, []};
 ghost use Rattle.wasm_store.specs.Configuration.{Configuration, started};
 ghost use Rattle.wasm_store.specs.Step.{Step};
-ghost use Rattle.type_safety.specs.Safety.{HasCodeOnTop};
+ghost use Rattle.type_safety.specs.Safety.{HasCodeOnTop, Progress};
 ghost use Rattle.type_safety.specs.Typed.{Typed};
 
 /// The configuration before anything is instantiated is typed.
@@ -15,4 +15,9 @@ pub fn the_first_is_typed()
 /// Only where the top frame is of code is there a step.
 pub fn steps_need_code()
     ensures { (c d : Configuration) → Step c d → HasCodeOnTop c.frames }
+{}
+
+/// Each typed running configuration whose top frame is of code has a step.
+pub fn progress()
+    ensures { Progress }
 {}
