@@ -1,6 +1,8 @@
 -- Lists under a function, and their items.
-use Rattle.std.proofs.Common.{◌≡◌, ℕ, zero, suc, ◌<◌, List, [], ◌∷◌, ◌++◌, Option, Some, None, option_map, All, map, slice_get, get_or, length, refl, ap, ◌∙◌, subst, arith}
+use Rattle.std.proofs.Common.{◌≡◌, ℕ, zero, suc, ◌<◌, if◌then◌else◌, Bool, true, false, List, [], ◌∷◌, ◌++◌, Option, Some, None, option_map, All, map, slice_get, get_or, set, reverse, sym, length, refl, ap, ◌∙◌, subst, arith}
 use Rattle.std.proofs.lemmas.Option.{slice_get_within}
+use Rattle.std.proofs.lemmas.List.{reverse-append, map-append}
+use Rattle.std.proofs.lemmas.List.Elements.{All-nil, All-cons, All-append, All-head, All-tail}
 
 module _ {A B : Type 0} (f : A → B) where
   -- What a list is whose image begins with y.
@@ -65,3 +67,37 @@ pub there : {A : Type 0} → (xs : List A) (n : ℕ) → n < length xs → (x : 
 there [] n h = let no : ⊥ = omega arith in absurd no
 there (x ∷ xs) zero h = (x, refl)
 there (x ∷ xs) (suc n) h = there xs n (omega arith)
+
+-- Two names for what is found are the same.
+pub same_some : {A : Type 0} → (o : Option A) (x y : A) → o ≡ Some x → o ≡ Some y → x ≡ y
+same_some o x y h k = cc
+
+-- An item that is set to what it was.
+pub set_same : {A : Type 0} → (xs : List A) (n : ℕ) (y : A) → slice_get xs n ≡ Some y → set xs n y ≡ xs
+set_same [] n y h = cc
+set_same (x ∷ xs) zero y h = let e : y ≡ x = cc in ap (λ z. z ∷ xs) e
+set_same (x ∷ xs) (suc n) y h = ap (λ z. x ∷ z) (set_same xs n y h)
+
+pub reverse-cons : {A : Type 0} → (x : A) (xs : List A) → reverse (x ∷ xs) ≡ reverse xs ++ x ∷ []
+reverse-cons x xs = reverse-append (x ∷ []) xs
+
+pub map-reverse : {A B : Type 0} → (f : A → B) (xs : List A) → map f (reverse xs) ≡ reverse (map f xs)
+map-reverse f [] = refl
+map-reverse f (x ∷ xs) =
+    ap (map f) (reverse-cons x xs) ∙ map-append f (reverse xs) (x ∷ []) ∙ ap (λ l. l ++ f x ∷ []) (map-reverse f xs) ∙ sym (reverse-cons (f x) (map f xs))
+
+pub All-reverse : {A : Type 0} → (P : A → Type 0) (xs : List A) → All P xs → All P (reverse xs)
+All-reverse P [] h = All-nil P
+All-reverse P (x ∷ xs) h =
+    subst (All P) (sym (reverse-cons x xs)) (
+    All-append P (reverse xs) (x ∷ []) (All-reverse P xs (All-tail P x xs h)) (All-cons P x [] (All-head P x xs h) (All-nil P))
+    )
+
+pub of_nil : {A B : Type 0} → (f : A → B) (xs : List A) → map f xs ≡ [] → xs ≡ []
+of_nil f [] h = refl
+of_nil f (x ∷ xs) h = cc
+
+-- What holds of both choices holds of the choice.
+pub chosen_has : {A : Type 0} → (P : A → Type 0) (b : Bool) (x y : A) → P x → P y → P (if b then x else y)
+chosen_has P true x y h k = h
+chosen_has P false x y h k = k

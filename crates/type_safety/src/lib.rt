@@ -4,7 +4,7 @@
 ghost use Rattle.std.specs.Prelude.{◌≡◌, []};
 ghost use Rattle.wasm_store.specs.Configuration.{Configuration, started};
 ghost use Rattle.wasm_store.specs.Step.{Step};
-ghost use Rattle.type_safety.specs.Safety.{HasCodeOnTop, Progress};
+ghost use Rattle.type_safety.specs.Safety.{HasCodeOnTop, Preservation, Progress};
 ghost use Rattle.type_safety.specs.Typed.{Typed};
 
 /// The configuration before anything is instantiated is typed.
@@ -20,4 +20,9 @@ pub fn steps_need_code()
 /// Each typed running configuration whose top frame is of code has a step.
 pub fn progress()
     ensures { Progress }
+{}
+
+/// Each step of a typed configuration gives a typed one.
+pub fn preservation()
+    ensures { Preservation }
 {}
