@@ -1,1 +1,3 @@
 pub mod SessionLaws
+pub mod Extending
+pub mod HostLaws
