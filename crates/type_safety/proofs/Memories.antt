@@ -17,9 +17,6 @@ use Rattle.type_safety.proofs.Lists.{get-map, set_same}
 
 -- ---- bytes
 
-IsByte : ℕ → Type 0
-IsByte b = b < 256
-
 pub bytes_of_number-bytes : (k n : ℕ) → All (λ b. b < 256) (bytes_of_number k n)
 bytes_of_number-bytes zero n = All-nil (λ b. b < 256)
 bytes_of_number-bytes (suc k) n = All-cons (λ b. b < 256) (n % 256) (bytes_of_number k (n / 256)) (grind arith) (bytes_of_number-bytes k (n / 256))
@@ -27,20 +24,20 @@ bytes_of_number-bytes (suc k) n = All-cons (λ b. b < 256) (n % 256) (bytes_of_n
 pub length-items_at : (bytes : List ℕ) (at width : ℕ) → IsTrue (is_within bytes at width) → length (items_at bytes at width) ≡ width
 length-items_at bytes at width h = let k : at + width ≤ length bytes = leb-true (at + width) (length bytes) h in grind (arith, length-take, length-drop)
 
-length-overwritten : (bytes : List ℕ) (at : ℕ) (others : List ℕ) → at + length others ≤ length bytes → length (overwritten bytes at others) ≡ length bytes
-length-overwritten bytes at others h =
-    grind (arith, length-append (take at bytes ++ others) (drop (at + length others) bytes), length-append (take at bytes) others, length-take, length-drop)
+pub length-overwritten : {A : Type 0} → (items : List A) (at : ℕ) (others : List A) → at + length others ≤ length items → length (overwritten items at others) ≡ length items
+length-overwritten items at others h =
+    grind (arith, length-append (take at items ++ others) (drop (at + length others) items), length-append (take at items) others, length-take, length-drop)
+
+pub All-overwritten : {A : Type 0} → (P : A → Type 0) (items : List A) (at : ℕ) (others : List A) → All P items → All P others → All P (overwritten items at others)
+All-overwritten P items at others all new =
+    All-append P (take at items ++ others) (drop (at + length others) items) (All-append P (take at items) others (All-take P at items all) new) (All-drop P (at + length others) items all)
 
 -- ---- a memory
 
 pub overwritten_typed : (mem : MemInst) (at : ℕ) (others : List ℕ) → MemoryTyped mem → All (λ b. b < 256) others → at + length others ≤ length mem.bytes → MemoryTyped (record mem { bytes = overwritten mem.bytes at others })
 overwritten_typed mem at others t all h =
-    let P : ℕ → Type 0 = λ b. b < 256 in
     record {
-      bytes =
-          All-append P (take at mem.bytes ++ others) (drop (at + length others) mem.bytes) (
-          All-append P (take at mem.bytes) others (All-take P at mem.bytes t.bytes) all
-          ) (All-drop P (at + length others) mem.bytes t.bytes);
+      bytes = All-overwritten (λ b. b < 256) mem.bytes at others t.bytes all;
       pages = t.pages;
       whole = length-overwritten mem.bytes at others h ∙ t.whole;
       few = t.few;

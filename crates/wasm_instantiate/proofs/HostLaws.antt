@@ -115,12 +115,12 @@ with_store : (c : Configuration) (s : Store) → Typed c → StoreTyped s → sh
 with_store c s t store same =
     record { store = store; outcome = t.outcome; frames = subst (λ (x : Shape). LayersTyped x c.frames []) (sym same) t.frames }
 
-shape-with_entries : (s : Store) (a : ℕ) (table : TableInst) (entries : List (Option ℕ)) → shape_of (with_entries s a table entries) ≡ shape_of s
+pub shape-with_entries : (s : Store) (a : ℕ) (table : TableInst) (entries : List (Option ℕ)) → shape_of (with_entries s a table entries) ≡ shape_of s
 shape-with_entries s a table entries =
     let make : ℕ → Shape = λ n. record { funcs = s.funcs; instances = s.instances; globals = map (λ (g : GlobalInst). g.ty) s.globals; tables = n; memories = length s.memories } in
     ap make (length-set s.tables a (record table { entries = entries }))
 
-with_entries_typed : (s : Store) (a : ℕ) (table : TableInst) (entries : List (Option ℕ)) → StoreTyped s → TableTyped (shape_of s) (record table { entries = entries }) → StoreTyped (with_entries s a table entries)
+pub with_entries_typed : (s : Store) (a : ℕ) (table : TableInst) (entries : List (Option ℕ)) → StoreTyped s → TableTyped (shape_of s) (record table { entries = entries }) → StoreTyped (with_entries s a table entries)
 with_entries_typed s a table entries store t =
     let same = sym (shape-with_entries s a table entries) in
     record {
