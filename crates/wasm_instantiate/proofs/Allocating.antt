@@ -1,16 +1,15 @@
 -- What an instantiation allocates is typed.
-use Rattle.std.proofs.Common.{◌≡◌, ℕ, zero, suc, ◌+◌, ◌*◌, ◌^◌, ◌<◌, ◌≤◌, if◌then◌else◌, Bool, true, false, IsTrue, List, [], ◌∷◌, ◌++◌, Option, Some, None, IfSome, option_map, All, length, map, replicate, slice_get, get_or, refl, sym, ap, subst, ◌∙◌, arith, length-append, append-nil}
+use Rattle.std.proofs.Common.{◌≡◌, ℕ, zero, suc, ◌+◌, ◌*◌, ◌^◌, ◌<◌, ◌≤◌, if◌then◌else◌, Bool, true, false, List, [], ◌∷◌, ◌++◌, Option, Some, None, IfSome, option_map, All, length, map, slice_get, refl, sym, ap, subst, ◌∙◌, arith, length-append}
 use Rattle.std.specs.Prelude.{slice_index}
 use Rattle.std.specs.List.{filter_map, flat_map, enumerate_from, range_with_len}
 use Rattle.std.proofs.lemmas.List.{length-map, length-replicate}
-use Rattle.std.proofs.lemmas.List.FromFn.{length-enumerate_from, length-range_with_len}
+use Rattle.std.proofs.lemmas.List.FromFn.{length-enumerate_from}
 use Rattle.std.proofs.lemmas.List.Elements.{All-nil, All-cons, All-append, All-map, All-replicate, All-head, All-tail}
 use Rattle.std.proofs.lemmas.Option.{slice_get_within}
 use Rattle.wasm_values.specs.declared.number.Val.{Val}
 use Rattle.wasm_values.specs.declared.number.ValType.{ValType}
 use Rattle.wasm_values.specs.Operators.{type_of}
 use Rattle.wasm_syntax.specs.declared.instr.Instr as source
-use Rattle.wasm_syntax.specs.declared.module.FuncType.{FuncType}
 use Rattle.wasm_syntax.specs.declared.module.GlobalType.{GlobalType}
 use Rattle.wasm_syntax.specs.declared.module.Limits.{Limits}
 use Rattle.wasm_syntax.specs.declared.module.Import.{Import}
@@ -24,21 +23,18 @@ use Rattle.wasm_syntax.specs.declared.module.Module.{Module}
 use Rattle.wasm_syntax.specs.Trees.{sequence_of}
 use Rattle.wasm_validate.specs.Valid.{func_import, table_import, memory_import, global_import, type_or_none, type_at, func_types_of, funcs_of, tables_of, memories_of, imported_globals_of, globals_of, context_of, immutable_type, const_type, TypeValid, TableValid, MemoryValid, GlobalValid, ExportValid, ElemValid, FuncValid, ValInRange, SequenceInRange, LimitsInRange, IsWord, Valid}
 use Rattle.wasm_store.specs.declared.store.FuncInst.{FuncInst}
-use Rattle.wasm_store.specs.declared.store.FuncInst.TheVariants.{Code, Host}
 use Rattle.wasm_store.specs.declared.store.TableInst.{TableInst}
 use Rattle.wasm_store.specs.declared.store.MemInst.{MemInst}
 use Rattle.wasm_store.specs.declared.store.GlobalInst.{GlobalInst}
 use Rattle.wasm_store.specs.declared.store.Extern.{Extern}
-use Rattle.wasm_store.specs.declared.store.Extern.TheVariants.{Func, Table, Memory, Global}
-use Rattle.wasm_store.specs.declared.store.Instance.{Instance}
 use Rattle.wasm_store.specs.declared.store.Store.{Store}
 use Rattle.wasm_store.specs.Control.{type_of_inst}
-use Rattle.type_safety.specs.Shapes.{Shape, shape_of, func_type_at, IsContextOf, ExternExists}
-use Rattle.type_safety.specs.Stores.{FuncTyped, FuncInstTyped, TableTyped, MemoryTyped, GlobalTyped, InstanceTyped, StoreTyped}
+use Rattle.type_safety.specs.Shapes.{shape_of, func_type_at, IsContextOf, ExternExists}
+use Rattle.type_safety.specs.Stores.{FuncInstTyped, TableTyped, MemoryTyped, GlobalTyped, InstanceTyped, StoreTyped}
 use Rattle.type_safety.proofs.Lists.{of_get, get-map, of_option_map, all-get, there}
 use Rattle.wasm_instantiate.specs.Matching.{MatchImports}
 use Rattle.wasm_instantiate.specs.Instantiation.{value_of_code, global_value, func_in_extern, table_in_extern, memory_in_extern, global_in_extern, func_addresses, table_addresses, memory_addresses, global_addresses, exported_extern, made_instance, made_func, made_table, made_memory, made_global, allocated}
-use Rattle.wasm_instantiate.proofs.Extending.{all-map, get-append, Extends, func_type_still, func_typed_still, table_typed_still, instance_typed_still}
+use Rattle.wasm_instantiate.proofs.Extending.{all-map, get-append, Extends, func_typed_still, table_typed_still, instance_typed_still}
 use Rattle.wasm_instantiate.proofs.Importing.{map-parts, map-same, get-map-is, two_parts, get-seam, new_parts, imported_parts, func_wanted, funcs_agree, globals_agree, table_wanted, tables_agree, memory_wanted, memories_agree, image_all, image_length, filter_map-then}
 
 -- ---- constant expressions

@@ -1,5 +1,5 @@
 -- Segments that lie in bounds are written without a change of shape or size.
-use Rattle.std.proofs.Common.{◌≡◌, ℕ, ◌+◌, ◌<◌, ◌≤◌, ◌&&◌, nat_le, Bool, true, false, IsTrue, List, [], ◌∷◌, ◌++◌, Option, Some, None, IfSome, option_map, All, length, map, set, slice_get, refl, sym, ap, subst, ◌∙◌, arith, leb-true}
+use Rattle.std.proofs.Common.{◌≡◌, ℕ, ◌+◌, ◌<◌, ◌≤◌, ◌&&◌, nat_le, Bool, true, false, IsTrue, List, [], ◌∷◌, Option, Some, None, IfSome, option_map, All, length, map, set, slice_get, refl, sym, ap, subst, ◌∙◌, leb-true}
 use Rattle.std.specs.Prelude.{slice_index, fold}
 use Rattle.std.specs.List.{list_all}
 use Rattle.std.proofs.lemmas.List.{map-set, length-map}
@@ -14,13 +14,12 @@ use Rattle.wasm_store.specs.declared.store.MemInst.{MemInst}
 use Rattle.wasm_store.specs.declared.store.GlobalInst.{GlobalInst}
 use Rattle.wasm_store.specs.declared.store.Instance.{Instance}
 use Rattle.wasm_store.specs.declared.store.Store.{Store}
-use Rattle.wasm_store.specs.Memory.{overwritten, with_bytes}
+use Rattle.wasm_store.specs.Memory.{overwritten}
 use Rattle.type_safety.specs.Shapes.{Shape, shape_of}
 use Rattle.type_safety.specs.Stores.{TableTyped, MemoryTyped, StoreTyped}
 use Rattle.type_safety.proofs.Lists.{get-map, all-get, set_same}
 use Rattle.type_safety.proofs.Memories.{length-overwritten, All-overwritten, overwritten_typed, with_bytes_typed, shape-with_bytes}
 use Rattle.wasm_instantiate.specs.Instantiation.{value_of_code, offset_of, has_entries, has_bytes, elem_fits, segment_fits, changed, with_elem, with_segment, initialized}
-use Rattle.wasm_instantiate.specs.Hosts.{with_entries}
 use Rattle.wasm_instantiate.proofs.HostLaws.{shape-with_entries, with_entries_typed}
 use Rattle.wasm_instantiate.proofs.Importing.{get-map-is}
 

@@ -1,5 +1,5 @@
 -- Instantiations of valid modules keep configurations typed, and so does every action.
-use Rattle.std.proofs.Common.{◌≡◌, ℕ, ◌<◌, IsTrue, List, [], ◌∷◌, Option, Some, None, IfSome, All, length, map, reverse, slice_get, refl, sym, ap, subst, ◌∙◌}
+use Rattle.std.proofs.Common.{◌≡◌, ℕ, ◌<◌, IsTrue, List, [], Option, Some, None, IfSome, All, length, map, reverse, slice_get, refl, sym, ap, subst, ◌∙◌}
 use Rattle.std.specs.Prelude.{slice_index}
 use Rattle.std.proofs.lemmas.List.Elements.{All-nil}
 use Rattle.wasm_syntax.specs.declared.module.FuncType.{FuncType}
