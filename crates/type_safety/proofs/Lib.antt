@@ -1,0 +1,10 @@
+pub mod Lists
+pub mod Lookups
+pub mod Progressing
+pub mod Ranges
+pub mod Memories
+pub mod Frames
+pub mod Branching
+pub mod Keeping
+pub mod Calling
+pub mod Preserving

@@ -1,0 +1,5 @@
+pub mod Shapes
+pub mod Stores
+pub mod Frames
+pub mod Typed
+pub mod Safety

@@ -1,0 +1,7 @@
+pub mod Matching
+pub mod Pool
+pub mod Instantiation
+pub mod Refusals
+pub mod Hosts
+pub mod Sessions
+pub mod Safety

@@ -1,0 +1,4 @@
+//! Instances and sessions.
+#![tactic(auto)]
+
+pub mod laws;

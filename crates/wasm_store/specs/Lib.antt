@@ -1,0 +1,8 @@
+pub mod Configuration
+pub mod Coding
+pub mod Seen
+pub mod Readers
+pub mod Numeric
+pub mod Memory
+pub mod Control
+pub mod Step
