@@ -256,20 +256,20 @@ module _ (s : Store) (store : StoreTyped s) (m : Module) (valid : Valid m) (exte
   instance_typed =
       let sh = shape_of (allocated s m externs) in
       record {
-        types = valid.types;
+        types = valid.parts.types;
         funcs = funcs_exist;
         tables = tables_exist;
-        one_table = subst (λ n. n ≤ 1) tables_length valid.one_table;
+        one_table = subst (λ n. n ≤ 1) tables_length valid.parts.one_table;
         memories = memories_exist;
-        one_memory = subst (λ n. n ≤ 1) memories_length valid.one_memory;
+        one_memory = subst (λ n. n ≤ 1) memories_length valid.parts.one_memory;
         globals = globals_exist;
         exports =
             All-map (λ e. ExternExists sh e.1) (λ (e : Export). (e.name, exported_extern s m externs e.kind)) m.exports (
-            all-map (λ (e : Export). ExportValid m e.kind) (λ (e : Export). ExternExists sh (exported_extern s m externs e.kind)) m.exports (λ e h. export_exists e.kind h) valid.exports
+            all-map (λ (e : Export). ExportValid m e.kind) (λ (e : Export). ExternExists sh (exported_extern s m externs e.kind)) m.exports (λ e h. export_exists e.kind h) valid.parts.exports
             );
         elems =
             all-flat_map (λ a. a < length sh.funcs) (λ (e : Elem). map (slice_index (func_addresses s m externs)) e.funcs) m.elems (
-            all-map (ElemValid m) (λ (e : Elem). All (λ a. a < length sh.funcs) (map (slice_index (func_addresses s m externs)) e.funcs)) m.elems elems_exist valid.elems
+            all-map (ElemValid m) (λ (e : Elem). All (λ a. a < length sh.funcs) (map (slice_index (func_addresses s m externs)) e.funcs)) m.elems elems_exist valid.parts.elems
             );
       }
 
@@ -282,10 +282,10 @@ module _ (s : Store) (store : StoreTyped s) (m : Module) (valid : Valid m) (exte
   func_made : (k : ℕ) (f : FuncOf) → slice_get m.funcs k ≡ Some f → FuncInstTyped (shape_of (allocated s m externs)) (made_func m (length s.instances) (0 + k, f))
   func_made k f h =
       let at : 0 + k ≡ k = omega arith in
-      let known : f.ty < length m.types = all-get (λ (f : FuncOf). f.ty < length m.types) m.funcs k f valid.funcs h in
+      let known : f.ty < length m.types = all-get (λ (f : FuncOf). f.ty < length m.types) m.funcs k f valid.parts.funcs h in
       let ty = there m.types f.ty known in
       let is : type_at m.types f.ty ≡ ty.0 = ap type_or_none ty.1 in
-      let fine : TypeValid ty.0 = all-get TypeValid m.types f.ty ty.0 valid.types ty.1 in
+      let fine : TypeValid ty.0 = all-get TypeValid m.types f.ty ty.0 valid.parts.types ty.1 in
       let ranges = all-get (λ (f : FuncOf). IsWord f.ty × SequenceInRange (sequence_of f.body)) m.funcs k f valid.ranges.funcs h in (
         subst TypeValid (sym is) fine,
         record {
@@ -298,7 +298,7 @@ module _ (s : Store) (store : StoreTyped s) (m : Module) (valid : Valid m) (exte
           context_is = context_is f;
           locals = refl;
           results = refl;
-          body = all-get (FuncValid m) m.funcs k f valid.bodies h;
+          body = all-get (FuncValid m) m.funcs k f valid.parts.bodies h;
           ranges = ranges.1;
         },
       )
@@ -331,7 +331,7 @@ module _ (s : Store) (store : StoreTyped s) (m : Module) (valid : Valid m) (exte
 
   global_made : (k : ℕ) (g : GlobalOf) → slice_get m.globals k ≡ Some g → GlobalTyped (made_global s externs g)
   global_made k g h =
-      let const = all-get (GlobalValid m) m.globals k g valid.globals h in
+      let const = all-get (GlobalValid m) m.globals k g valid.parts.globals h in
       let range = all-get (λ (g : GlobalOf). SequenceInRange (sequence_of g.init)) m.globals k g valid.ranges.globals h in
       const_typed s.globals (filter_map global_in_extern externs) (imported_globals_of m) g.ty.value store.globals imported_globals_image g.init range const
 
@@ -352,12 +352,12 @@ module _ (s : Store) (store : StoreTyped s) (m : Module) (valid : Valid m) (exte
         tables =
             All-append (TableTyped sh) s.tables (map made_table m.tables) (all-map (TableTyped old) (TableTyped sh) s.tables (table_typed_still old sh e) store.tables) (
             All-map (TableTyped sh) made_table m.tables (
-            all-by_place (λ l. TableTyped sh (made_table l)) m.tables (λ k l h. table_made l (all-get LimitsInRange m.tables k l valid.ranges.tables h) (all-get TableValid m.tables k l valid.tables h))
+            all-by_place (λ l. TableTyped sh (made_table l)) m.tables (λ k l h. table_made l (all-get LimitsInRange m.tables k l valid.ranges.tables h) (all-get TableValid m.tables k l valid.parts.tables h))
             )
             );
         memories =
             All-append MemoryTyped s.memories (map made_memory m.memories) store.memories (
-            All-map MemoryTyped made_memory m.memories (all-map MemoryValid (λ l. MemoryTyped (made_memory l)) m.memories memory_made valid.memories)
+            All-map MemoryTyped made_memory m.memories (all-map MemoryValid (λ l. MemoryTyped (made_memory l)) m.memories memory_made valid.parts.memories)
             );
         globals =
             All-append GlobalTyped s.globals (map (made_global s externs) m.globals) store.globals (

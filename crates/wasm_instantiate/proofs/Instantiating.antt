@@ -57,10 +57,10 @@ module _ (s : Store) (store : StoreTyped s) (m : Module) (valid : Valid m) (exte
   made_typed d fits h =
       let elems = all-map (ElemValid m) (λ (e : Elem). All (λ x. slice_index (func_addresses s m externs) x < length (shape_of (allocated s m externs)).funcs) e.funcs) m.elems (
       λ e v. all-map (λ x. x < length (func_types_of m)) (λ x. slice_index (func_addresses s m externs) x < length (shape_of (allocated s m externs)).funcs) e.funcs (func_at_index s store m valid externs match) v.2
-      ) valid.elems in
+      ) valid.parts.elems in
       let segments = all-map (λ (s : Segment). IsWord s.memory × SequenceInRange (sequence_of s.offset) × BytesInRange s.bytes) (λ (e : Segment). All (λ b. b < 256) e.bytes) m.segments (λ e v. v.2) valid.ranges.segments in
       let k = initialized_typed (allocated s m externs) (made_instance s m externs) m (allocated_typed s store m valid externs match) elems segments fits in
-      starts_typed (initialized (allocated s m externs) (made_instance s m externs) m) k m.start valid.start d h
+      starts_typed (initialized (allocated s m externs) (made_instance s m externs) m) k m.start valid.parts.start d h
 
 pub instantiated_typed : (c d : Configuration) (m : Module) (externs : List Extern) → Valid m → Typed c → Instantiated c m externs d → Typed d
 instantiated_typed c d m externs valid t h = made_typed c.store t.store m valid externs h.matching d h.in_bounds h.starts
