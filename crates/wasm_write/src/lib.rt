@@ -6,6 +6,7 @@ mod encoder;
 mod entry;
 mod fault;
 mod instrs;
+pub mod laws;
 mod number;
 mod sections;
 #[cfg(test)]
