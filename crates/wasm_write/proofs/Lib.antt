@@ -1,3 +1,4 @@
 mod Written
 mod NumberTexts
 mod TypeTexts
+mod CodeTexts

@@ -4,10 +4,11 @@ ghost use Rattle.std.specs.Prelude.{ℕ, ◌^◌, ◌<◌};
 ghost use Rattle.binary_grammar.specs.Numbers.{SpellsU32};
 ghost use Rattle.binary_grammar.specs.CodeGrammar.{SpellsWord32, SpellsWord64};
 ghost use Rattle.wasm_write.specs.Shortest.{number_text, signed_text};
-ghost use Rattle.binary_grammar.specs.Grammar.{SpellsImport};
-ghost use Rattle.wasm_syntax.specs.declared.module.Import.{Import};
-ghost use Rattle.wasm_write.specs.Writable.{ImportWritable};
-ghost use Rattle.wasm_write.specs.Encoding.{import_text};
+ghost use Rattle.std.specs.Prelude.{List};
+ghost use Rattle.binary_grammar.specs.CodeGrammar.{SpellsInstrs};
+ghost use Rattle.wasm_syntax.specs.declared.instr.Instr.{Instr};
+ghost use Rattle.wasm_write.specs.Writable.{CodeWritable};
+ghost use Rattle.wasm_write.specs.Encoding.{expression_text};
 
 /// The texts of numbers spell them.
 pub fn numbers_are_spelled()
@@ -17,5 +18,5 @@ pub fn numbers_are_spelled()
 {}
 
 pub fn probe()
-    ensures { (i : Import) (at : ℕ) → ImportWritable i → SpellsImport at (import_text i) i }
+    ensures { (is : List Instr) (at : ℕ) → CodeWritable is → SpellsInstrs at (expression_text is) is }
 {}

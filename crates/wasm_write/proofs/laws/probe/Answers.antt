@@ -1,5 +1,5 @@
-use Rattle.wasm_write.proofs.TypeTexts.{import_}
+use Rattle.wasm_write.proofs.CodeTexts.{instrs}
 use Rattle.wasm_write.proofs.laws.probe.Goals as goal
 
 pub returns : goal.returns
-returns c = λ i at w. import_ i w at
+returns c = λ is at w. instrs is w at
