@@ -2,3 +2,6 @@ mod Written
 mod NumberTexts
 mod TypeTexts
 mod CodeTexts
+mod SectionTexts
+mod Builds
+mod ModuleTexts

@@ -200,3 +200,6 @@ spells_word64 at n lt =
             let s : u < 2 ^ 63 = omega arith in
             (negsuc u, (p.are, p.few, p.is, record { sfits = s }), omega arith)
     ] refl
+
+pub short_number : (n : ℕ) → n < 2 ^ 32 → length (number_text n) < 2 ^ 32
+short_number n lt = let s = spells_number n lt in omega (arith, s.1)

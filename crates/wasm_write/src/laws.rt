@@ -1,14 +1,14 @@
 //! Laws over the definitions alone.
 
 ghost use Rattle.std.specs.Prelude.{ℕ, ◌^◌, ◌<◌};
+ghost use Rattle.wasm_syntax.specs.declared.module.Module.{Module};
+ghost use Rattle.wasm_syntax.specs.declared.module.Marks.{Marks};
 ghost use Rattle.binary_grammar.specs.Numbers.{SpellsU32};
 ghost use Rattle.binary_grammar.specs.CodeGrammar.{SpellsWord32, SpellsWord64};
+ghost use Rattle.binary_grammar.specs.ModuleGrammar.{Spells};
 ghost use Rattle.wasm_write.specs.Shortest.{number_text, signed_text};
-ghost use Rattle.std.specs.Prelude.{List};
-ghost use Rattle.binary_grammar.specs.CodeGrammar.{SpellsInstrs};
-ghost use Rattle.wasm_syntax.specs.declared.instr.Instr.{Instr};
-ghost use Rattle.wasm_write.specs.Writable.{CodeWritable};
-ghost use Rattle.wasm_write.specs.Encoding.{expression_text};
+ghost use Rattle.wasm_write.specs.Encoding.{encoded};
+ghost use Rattle.wasm_write.specs.Writable.{Writable};
 
 /// The texts of numbers spell them.
 pub fn numbers_are_spelled()
@@ -17,6 +17,7 @@ pub fn numbers_are_spelled()
     ensures word64 { (at n : ℕ) → n < 2 ^ 64 → SpellsWord64 at (signed_text 64 n) n }
 {}
 
-pub fn probe()
-    ensures { (is : List Instr) (at : ℕ) → CodeWritable is → SpellsInstrs at (expression_text is) is }
+/// The text of a writable module spells it.
+pub fn modules_are_spelled()
+    ensures { (m : Module) → Writable m → (k : Marks) × Spells (encoded m) m k }
 {}
