@@ -126,13 +126,13 @@ customs (c ∷ cs) id w h at d after =
     let first : Builds at (custom_text c) d P = one_section at (custom_text c) d P (section.Custom c.name c.bytes) (custom_stands at c w.0) (inl refl) tt is in
     both at (custom_text c) (flat_map custom_text cs) d P Q first
     (λ e p.
-        let rest = customs cs id w.1 h.1 (at + length (custom_text c)) e (λ some. ap (λ (x : Draft). x.after) p ∙ same_after d (c ∷ []) ∙ here) in
-        record {
-          sections = rest.sections;
-          turn = rest.turn;
-          stand = rest.stand;
-          done = rest.done ∙ ap (λ x. with_customs x cs) p ∙ more_customs d c cs;
-        })
+    let rest = customs cs id w.1 h.1 (at + length (custom_text c)) e (λ some. ap (λ (x : Draft). x.after) p ∙ same_after d (c ∷ []) ∙ here) in
+    record {
+      sections = rest.sections;
+      turn = rest.turn;
+      stand = rest.stand;
+      done = rest.done ∙ ap (λ x. with_customs x cs) p ∙ more_customs d c cs;
+    })
 
 -- ---- the custom sections by what they name
 
@@ -152,11 +152,11 @@ split_customs low id (c ∷ cs) h =
     let ih = split_customs c.after id cs h.1 in
     elim (eqb c.after id) as (λ b. eqb c.after id ≡ b → cond b (c ∷ customs_after id cs) (customs_after id cs) ++ cond (leb (suc id) c.after) (c ∷ named_from (suc id) cs) (named_from (suc id) cs) ≡ cond (leb id c.after) (c ∷ named_from id cs) (named_from id cs)) [
       | true ↦ λ e.
-            let is : c.after ≡ id = eqb-true c.after id e in
-            rw (lt-leb (suc id) c.after (omega arith), le-leb id c.after (omega arith)) (ap (λ ds. c ∷ ds) ih)
+          let is : c.after ≡ id = eqb-true c.after id e in
+          rw (lt-leb (suc id) c.after (omega arith), le-leb id c.after (omega arith)) (ap (λ ds. c ∷ ds) ih)
       | false ↦ λ e.
-            let ne : c.after ≡ id → ⊥ = eqb-false c.after id e in
-            split_others c id cs ne h.1 ih
+          let ne : c.after ≡ id → ⊥ = eqb-false c.after id e in
+          split_others c id cs ne h.1 ih
     ] refl
   where
     split_others : (c : Custom) (id : ℕ) (cs : List Custom) → (c.after ≡ id → ⊥) → NeverFalls c.after cs → customs_after id cs ++ named_from (suc id) cs ≡ named_from id cs →
@@ -164,13 +164,13 @@ split_customs low id (c ∷ cs) h =
     split_others c id cs ne falls ih =
         elim (leb id c.after) as (λ b. leb id c.after ≡ b → customs_after id cs ++ cond (leb (suc id) c.after) (c ∷ named_from (suc id) cs) (named_from (suc id) cs) ≡ cond b (c ∷ named_from id cs) (named_from id cs)) [
           | true ↦ λ e.
-                let le : id ≤ c.after = leb-true id c.after e in
-                let lt : id < c.after = above c.after id le ne in
-                let none : customs_after id cs ≡ [] = none_named c.after id cs falls lt in
-                rw (le-leb (suc id) c.after (omega arith)) (ap (λ ds. ds ++ c ∷ named_from (suc id) cs) none ∙ ap (λ ds. c ∷ ds) (ap (λ ds. ds ++ named_from (suc id) cs) (sym none) ∙ ih))
+              let le : id ≤ c.after = leb-true id c.after e in
+              let lt : id < c.after = above c.after id le ne in
+              let none : customs_after id cs ≡ [] = none_named c.after id cs falls lt in
+              rw (le-leb (suc id) c.after (omega arith)) (ap (λ ds. ds ++ c ∷ named_from (suc id) cs) none ∙ ap (λ ds. c ∷ ds) (ap (λ ds. ds ++ named_from (suc id) cs) (sym none) ∙ ih))
           | false ↦ λ e.
-                let lt : c.after < id = leb-false id c.after e in
-                rw (lt-leb (suc id) c.after (omega arith)) ih
+              let lt : c.after < id = leb-false id c.after e in
+              rw (lt-leb (suc id) c.after (omega arith)) ih
         ] refl
       where
         above : (a b : ℕ) → b ≤ a → (a ≡ b → ⊥) → b < a

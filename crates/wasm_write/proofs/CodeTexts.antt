@@ -201,8 +201,8 @@ body_of f w few at =
     record {
       body = b;
       spells = sized SpellsBodyContents at (body_text f) b w.1
-        (then _ _ start a (expression_text f.body) f.locals b (locals f.locals few start)
-            (then_done _ (λ (code : List Instr × List ℕ). record { locals = f.locals; code = code.0; places = code.1 }) (start + length a) (expression_text f.body) (f.body, e.0) e.1));
+          (then _ _ start a (expression_text f.body) f.locals b (locals f.locals few start)
+          (then_done _ (λ (code : List Instr × List ℕ). record { locals = f.locals; code = code.0; places = code.1 }) (start + length a) (expression_text f.body) (f.body, e.0) e.1));
       locals = refl;
       code = refl;
     }

@@ -1,5 +1,6 @@
 -- The text of a module spells it.
-use Rattle.std.proofs.Common.{◌≡◌, ℕ, zero, suc, ◌+◌, ◌<◌, ◌≤◌, Bool, true, false, cond, eqb, leb, List, [], ◌∷◌, ◌++◌, length, map, Option, Some, None, inl, inr, refl, sym, ap, subst, ◌∙◌, append_assoc, arith}
+use Rattle.std.proofs.Common.{◌≡◌, ℕ, zero, suc, ◌+◌, ◌<◌, ◌≤◌, Bool, true, false, cond, eqb, leb, List, [], ◌∷◌, ◌++◌, length, map, Option, Some, None, Result, Ok, Err, inl, inr, refl, sym, ap, subst, ◌∙◌, append_assoc, arith}
+use Rattle.std.specs.Prelude.{MatchResult, IfOk}
 use Rattle.std.specs.List.{AllByRecursion, flat_map}
 use Rattle.std.proofs.lemmas.Bool.{ne_eqb, leb-true, leb-false}
 use Rattle.std.proofs.lemmas.List.{append-nil, length-append, length-map}
@@ -9,6 +10,8 @@ use Rattle.wasm_syntax.specs.declared.module.Func.{Func}
 use Rattle.wasm_syntax.specs.declared.module.Custom.{Custom}
 use Rattle.wasm_syntax.specs.declared.module.Module.{Module}
 use Rattle.wasm_syntax.specs.declared.module.Marks.{Marks}
+use Rattle.binary_grammar.specs.declared.fault.DecodeFault.{DecodeFault}
+use Rattle.binary_grammar.specs.declared.fault.DecodeFault.TheVariants.{Malformed, Limit, OutOfMemory}
 use Rattle.binary_grammar.specs.declared.section.Body.{Body}
 use Rattle.binary_grammar.specs.declared.section.Section.TheVariants as section
 use Rattle.binary_grammar.specs.declared.section.Draft.{Draft}
@@ -16,8 +19,11 @@ use Rattle.binary_grammar.specs.declared.section.Decoded.{Decoded}
 use Rattle.binary_grammar.specs.Bounds.{the_bounds}
 use Rattle.binary_grammar.specs.Grammar.{Each, Many, SpellsNumber, SpellsVector, SpellsFuncType, SpellsImport, SpellsTableType, SpellsLimits, SpellsExport}
 use Rattle.binary_grammar.specs.CodeGrammar.{SpellsBody}
-use Rattle.binary_grammar.specs.SectionReading.{after_of, with_section, no_module, no_sections, funcs_of, places_of, whole_module, header}
+use Rattle.binary_grammar.specs.SectionReading.{after_of, with_section, no_module, no_sections, funcs_of, places_of, whole_module, header, module_at}
 use Rattle.binary_grammar.specs.ModuleGrammar.{SpellsGlobal, SpellsElem, SpellsSegment, SpellsContents, with_sections, FuncWithin, Spells}
+use Rattle.binary_grammar.specs.Reading.{Gives}
+use Rattle.binary_grammar.proofs.Exact.{ok}
+use Rattle.binary_grammar.proofs.ModuleLaws.{module_again}
 use Rattle.wasm_write.specs.Shortest.{number_text}
 use Rattle.wasm_write.specs.Encoding.{vector_text, func_type_text, import_text, type_text, table_type_text, limits_text, global_text, export_text, elem_text, func_text, segment_text, section_text, entries_text, start_text, customs_after, customs_text, behind, first_sections, last_sections, encoded}
 use Rattle.wasm_write.specs.Writable.{IsU32, IsCounted, IsMaximum, AreLimits, TypeWritable, ImportWritable, ExportWritable, GlobalWritable, FuncWritable, ElemWritable, SegmentWritable, CustomWritable, start_count, entries_of, NamesSection, NeverFalls, Writable}
@@ -148,120 +154,120 @@ unfolding SpellsContents
 types_step m w at d s =
     with_behind m (with_types m) [] [] 1 (length m.types) (entries_text 1 func_type_text m.types) w (omega arith) refl at d
     (entries section.Types 1 SpellsFuncType func_type_text TypeWritable (record { ids = λ xs ps. refl; contents = λ p text xs ps v. v; counts = λ n xs ps. tt }) func_type m.types
-        (record { few = omega (arith, w.limits.types); size = w.sizes.types; each = w.each_type }) at d (Behind m (with_types m) [] [] 1 (length m.types)) (omega (arith, s.last))
-        (λ none. record {
-            state = record { parts = s.parts ∙ ap (λ xs. record no_module { types = xs }) (sym none); named = s.named; types = s.types; shapes = s.shapes; last = omega (arith, s.last) };
-            after = λ some. absurd (omega (arith, ap length none));
-        })
-        (λ ps. record {
-            state = record { parts = ap (λ (n : Module). record n { types = m.types }) s.parts; named = s.named; types = s.types; shapes = s.shapes; last = omega arith };
-            after = λ some. after_some d.after 1 (length m.types) some;
-        }))
+    (record { few = omega (arith, w.limits.types); size = w.sizes.types; each = w.each_type }) at d (Behind m (with_types m) [] [] 1 (length m.types)) (omega (arith, s.last))
+    (λ none. record {
+      state = record { parts = s.parts ∙ ap (λ xs. record no_module { types = xs }) (sym none); named = s.named; types = s.types; shapes = s.shapes; last = omega (arith, s.last) };
+      after = λ some. absurd (omega (arith, ap length none));
+    })
+    (λ ps. record {
+      state = record { parts = ap (λ (n : Module). record n { types = m.types }) s.parts; named = s.named; types = s.types; shapes = s.shapes; last = omega arith };
+      after = λ some. after_some d.after 1 (length m.types) some;
+    }))
 
 imports_step : (m : Module) → Writable m → (at : ℕ) (d : Draft) → State m (with_types m) ([]) ([]) 1 2 d → Builds at (behind 2 (entries_text 2 import_text m.imports) m.customs) d (State m (with_imports m) ([]) ([]) 2 3)
 unfolding SpellsContents
 imports_step m w at d s =
     with_behind m (with_imports m) ([]) ([]) 2 (length m.imports) (entries_text 2 import_text m.imports) w (omega arith) refl at d
     (entries section.Imports 2 SpellsImport import_text ImportWritable (record { ids = λ xs ps. refl; contents = λ p text xs ps v. v; counts = λ n xs ps. tt }) import_ m.imports
-        (record { few = w.imports; size = w.sizes.imports; each = w.each_import }) at d (Behind m (with_imports m) ([]) ([]) 2 (length m.imports)) (omega (arith, s.last))
-        (λ none. record {
-            state = record { parts = s.parts ∙ ap (λ xs. record (with_types m) { imports = xs }) (sym none); named = s.named; types = s.types; shapes = s.shapes; last = omega (arith, s.last) };
-            after = λ some. absurd (omega (arith, ap length none));
-        })
-        (λ ps. record {
-            state = record { parts = ap (λ (n : Module). record n { imports = m.imports }) s.parts; named = s.named; types = s.types; shapes = s.shapes; last = omega arith };
-            after = λ some. after_some d.after 2 (length m.imports) some;
-        }))
+    (record { few = w.imports; size = w.sizes.imports; each = w.each_import }) at d (Behind m (with_imports m) ([]) ([]) 2 (length m.imports)) (omega (arith, s.last))
+    (λ none. record {
+      state = record { parts = s.parts ∙ ap (λ xs. record (with_types m) { imports = xs }) (sym none); named = s.named; types = s.types; shapes = s.shapes; last = omega (arith, s.last) };
+      after = λ some. absurd (omega (arith, ap length none));
+    })
+    (λ ps. record {
+      state = record { parts = ap (λ (n : Module). record n { imports = m.imports }) s.parts; named = s.named; types = s.types; shapes = s.shapes; last = omega arith };
+      after = λ some. after_some d.after 2 (length m.imports) some;
+    }))
 
 tables_step : (m : Module) → Writable m → (at : ℕ) (d : Draft) → State m (with_imports m) (Types m) ([]) 3 4 d → Builds at (behind 4 (entries_text 4 table_type_text m.tables) m.customs) d (State m (with_tables m) (Types m) ([]) 4 5)
 unfolding SpellsContents
 tables_step m w at d s =
     with_behind m (with_tables m) (Types m) ([]) 4 (length m.tables) (entries_text 4 table_type_text m.tables) w (omega arith) refl at d
     (entries section.Tables 4 SpellsTableType table_type_text AreLimits (record { ids = λ xs ps. refl; contents = λ p text xs ps v. v; counts = λ n xs ps. tt }) table_type m.tables
-        (record { few = w.tables; size = w.sizes.tables; each = w.each_table }) at d (Behind m (with_tables m) (Types m) ([]) 4 (length m.tables)) (omega (arith, s.last))
-        (λ none. record {
-            state = record { parts = s.parts ∙ ap (λ xs. record (with_imports m) { tables = xs }) (sym none); named = s.named; types = s.types; shapes = s.shapes; last = omega (arith, s.last) };
-            after = λ some. absurd (omega (arith, ap length none));
-        })
-        (λ ps. record {
-            state = record { parts = ap (λ (n : Module). record n { tables = m.tables }) s.parts; named = s.named; types = s.types; shapes = s.shapes; last = omega arith };
-            after = λ some. after_some d.after 4 (length m.tables) some;
-        }))
+    (record { few = w.tables; size = w.sizes.tables; each = w.each_table }) at d (Behind m (with_tables m) (Types m) ([]) 4 (length m.tables)) (omega (arith, s.last))
+    (λ none. record {
+      state = record { parts = s.parts ∙ ap (λ xs. record (with_imports m) { tables = xs }) (sym none); named = s.named; types = s.types; shapes = s.shapes; last = omega (arith, s.last) };
+      after = λ some. absurd (omega (arith, ap length none));
+    })
+    (λ ps. record {
+      state = record { parts = ap (λ (n : Module). record n { tables = m.tables }) s.parts; named = s.named; types = s.types; shapes = s.shapes; last = omega arith };
+      after = λ some. after_some d.after 4 (length m.tables) some;
+    }))
 
 memories_step : (m : Module) → Writable m → (at : ℕ) (d : Draft) → State m (with_tables m) (Types m) ([]) 4 5 d → Builds at (behind 5 (entries_text 5 limits_text m.memories) m.customs) d (State m (with_memories m) (Types m) ([]) 5 6)
 unfolding SpellsContents
 memories_step m w at d s =
     with_behind m (with_memories m) (Types m) ([]) 5 (length m.memories) (entries_text 5 limits_text m.memories) w (omega arith) refl at d
     (entries section.Memories 5 SpellsLimits limits_text AreLimits (record { ids = λ xs ps. refl; contents = λ p text xs ps v. v; counts = λ n xs ps. tt }) limits m.memories
-        (record { few = w.memories; size = w.sizes.memories; each = w.each_memory }) at d (Behind m (with_memories m) (Types m) ([]) 5 (length m.memories)) (omega (arith, s.last))
-        (λ none. record {
-            state = record { parts = s.parts ∙ ap (λ xs. record (with_tables m) { memories = xs }) (sym none); named = s.named; types = s.types; shapes = s.shapes; last = omega (arith, s.last) };
-            after = λ some. absurd (omega (arith, ap length none));
-        })
-        (λ ps. record {
-            state = record { parts = ap (λ (n : Module). record n { memories = m.memories }) s.parts; named = s.named; types = s.types; shapes = s.shapes; last = omega arith };
-            after = λ some. after_some d.after 5 (length m.memories) some;
-        }))
+    (record { few = w.memories; size = w.sizes.memories; each = w.each_memory }) at d (Behind m (with_memories m) (Types m) ([]) 5 (length m.memories)) (omega (arith, s.last))
+    (λ none. record {
+      state = record { parts = s.parts ∙ ap (λ xs. record (with_tables m) { memories = xs }) (sym none); named = s.named; types = s.types; shapes = s.shapes; last = omega (arith, s.last) };
+      after = λ some. absurd (omega (arith, ap length none));
+    })
+    (λ ps. record {
+      state = record { parts = ap (λ (n : Module). record n { memories = m.memories }) s.parts; named = s.named; types = s.types; shapes = s.shapes; last = omega arith };
+      after = λ some. after_some d.after 5 (length m.memories) some;
+    }))
 
 globals_step : (m : Module) → Writable m → (at : ℕ) (d : Draft) → State m (with_memories m) (Types m) ([]) 5 6 d → Builds at (behind 6 (entries_text 6 global_text m.globals) m.customs) d (State m (with_globals m) (Types m) ([]) 6 7)
 unfolding SpellsContents
 globals_step m w at d s =
     with_behind m (with_globals m) (Types m) ([]) 6 (length m.globals) (entries_text 6 global_text m.globals) w (omega arith) refl at d
     (entries section.Globals 6 SpellsGlobal global_text GlobalWritable (record { ids = λ xs ps. refl; contents = λ p text xs ps v. v; counts = λ n xs ps. tt }) global_ m.globals
-        (record { few = w.globals; size = w.sizes.globals; each = w.each_global }) at d (Behind m (with_globals m) (Types m) ([]) 6 (length m.globals)) (omega (arith, s.last))
-        (λ none. record {
-            state = record { parts = s.parts ∙ ap (λ xs. record (with_memories m) { globals = xs }) (sym none); named = s.named; types = s.types; shapes = s.shapes; last = omega (arith, s.last) };
-            after = λ some. absurd (omega (arith, ap length none));
-        })
-        (λ ps. record {
-            state = record { parts = ap (λ (n : Module). record n { globals = m.globals }) s.parts; named = s.named; types = s.types; shapes = s.shapes; last = omega arith };
-            after = λ some. after_some d.after 6 (length m.globals) some;
-        }))
+    (record { few = w.globals; size = w.sizes.globals; each = w.each_global }) at d (Behind m (with_globals m) (Types m) ([]) 6 (length m.globals)) (omega (arith, s.last))
+    (λ none. record {
+      state = record { parts = s.parts ∙ ap (λ xs. record (with_memories m) { globals = xs }) (sym none); named = s.named; types = s.types; shapes = s.shapes; last = omega (arith, s.last) };
+      after = λ some. absurd (omega (arith, ap length none));
+    })
+    (λ ps. record {
+      state = record { parts = ap (λ (n : Module). record n { globals = m.globals }) s.parts; named = s.named; types = s.types; shapes = s.shapes; last = omega arith };
+      after = λ some. after_some d.after 6 (length m.globals) some;
+    }))
 
 exports_step : (m : Module) → Writable m → (at : ℕ) (d : Draft) → State m (with_globals m) (Types m) ([]) 6 7 d → Builds at (behind 7 (entries_text 7 export_text m.exports) m.customs) d (State m (with_exports m) (Types m) ([]) 7 8)
 unfolding SpellsContents
 exports_step m w at d s =
     with_behind m (with_exports m) (Types m) ([]) 7 (length m.exports) (entries_text 7 export_text m.exports) w (omega arith) refl at d
     (entries section.Exports 7 SpellsExport export_text ExportWritable (record { ids = λ xs ps. refl; contents = λ p text xs ps v. v; counts = λ n xs ps. tt }) export_ m.exports
-        (record { few = w.exports; size = w.sizes.exports; each = w.each_export }) at d (Behind m (with_exports m) (Types m) ([]) 7 (length m.exports)) (omega (arith, s.last))
-        (λ none. record {
-            state = record { parts = s.parts ∙ ap (λ xs. record (with_globals m) { exports = xs }) (sym none); named = s.named; types = s.types; shapes = s.shapes; last = omega (arith, s.last) };
-            after = λ some. absurd (omega (arith, ap length none));
-        })
-        (λ ps. record {
-            state = record { parts = ap (λ (n : Module). record n { exports = m.exports }) s.parts; named = s.named; types = s.types; shapes = s.shapes; last = omega arith };
-            after = λ some. after_some d.after 7 (length m.exports) some;
-        }))
+    (record { few = w.exports; size = w.sizes.exports; each = w.each_export }) at d (Behind m (with_exports m) (Types m) ([]) 7 (length m.exports)) (omega (arith, s.last))
+    (λ none. record {
+      state = record { parts = s.parts ∙ ap (λ xs. record (with_globals m) { exports = xs }) (sym none); named = s.named; types = s.types; shapes = s.shapes; last = omega (arith, s.last) };
+      after = λ some. absurd (omega (arith, ap length none));
+    })
+    (λ ps. record {
+      state = record { parts = ap (λ (n : Module). record n { exports = m.exports }) s.parts; named = s.named; types = s.types; shapes = s.shapes; last = omega arith };
+      after = λ some. after_some d.after 7 (length m.exports) some;
+    }))
 
 elems_step : (m : Module) → Writable m → (at : ℕ) (d : Draft) → State m (with_start m) (Types m) ([]) 8 9 d → Builds at (behind 9 (entries_text 9 elem_text m.elems) m.customs) d (State m (with_elems m) (Types m) ([]) 9 10)
 unfolding SpellsContents
 elems_step m w at d s =
     with_behind m (with_elems m) (Types m) ([]) 9 (length m.elems) (entries_text 9 elem_text m.elems) w (omega arith) refl at d
     (entries section.Elems 9 SpellsElem elem_text ElemWritable (record { ids = λ xs ps. refl; contents = λ p text xs ps v. v; counts = λ n xs ps. tt }) elem_ m.elems
-        (record { few = w.elems; size = w.sizes.elems; each = w.each_elem }) at d (Behind m (with_elems m) (Types m) ([]) 9 (length m.elems)) (omega (arith, s.last))
-        (λ none. record {
-            state = record { parts = s.parts ∙ ap (λ xs. record (with_start m) { elems = xs }) (sym none); named = s.named; types = s.types; shapes = s.shapes; last = omega (arith, s.last) };
-            after = λ some. absurd (omega (arith, ap length none));
-        })
-        (λ ps. record {
-            state = record { parts = ap (λ (n : Module). record n { elems = m.elems }) s.parts; named = s.named; types = s.types; shapes = s.shapes; last = omega arith };
-            after = λ some. after_some d.after 9 (length m.elems) some;
-        }))
+    (record { few = w.elems; size = w.sizes.elems; each = w.each_elem }) at d (Behind m (with_elems m) (Types m) ([]) 9 (length m.elems)) (omega (arith, s.last))
+    (λ none. record {
+      state = record { parts = s.parts ∙ ap (λ xs. record (with_start m) { elems = xs }) (sym none); named = s.named; types = s.types; shapes = s.shapes; last = omega (arith, s.last) };
+      after = λ some. absurd (omega (arith, ap length none));
+    })
+    (λ ps. record {
+      state = record { parts = ap (λ (n : Module). record n { elems = m.elems }) s.parts; named = s.named; types = s.types; shapes = s.shapes; last = omega arith };
+      after = λ some. after_some d.after 9 (length m.elems) some;
+    }))
 
 segments_step : (m : Module) → Writable m → (at : ℕ) (d : Draft) → State m (with_elems m) (Types m) (Shapes m) 10 11 d → Builds at (behind 11 (entries_text 11 segment_text m.segments) m.customs) d (State m (with_segments m) (Types m) (Shapes m) 11 12)
 unfolding SpellsContents
 segments_step m w at d s =
     with_behind m (with_segments m) (Types m) (Shapes m) 11 (length m.segments) (entries_text 11 segment_text m.segments) w (omega arith) refl at d
     (entries section.Segments 11 SpellsSegment segment_text SegmentWritable (record { ids = λ xs ps. refl; contents = λ p text xs ps v. v; counts = λ n xs ps. tt }) segment_ m.segments
-        (record { few = w.segments; size = w.sizes.segments; each = w.each_segment }) at d (Behind m (with_segments m) (Types m) (Shapes m) 11 (length m.segments)) (omega (arith, s.last))
-        (λ none. record {
-            state = record { parts = s.parts ∙ ap (λ xs. record (with_elems m) { segments = xs }) (sym none); named = s.named; types = s.types; shapes = s.shapes; last = omega (arith, s.last) };
-            after = λ some. absurd (omega (arith, ap length none));
-        })
-        (λ ps. record {
-            state = record { parts = ap (λ (n : Module). record n { segments = m.segments }) s.parts; named = s.named; types = s.types; shapes = s.shapes; last = omega arith };
-            after = λ some. after_some d.after 11 (length m.segments) some;
-        }))
+    (record { few = w.segments; size = w.sizes.segments; each = w.each_segment }) at d (Behind m (with_segments m) (Types m) (Shapes m) 11 (length m.segments)) (omega (arith, s.last))
+    (λ none. record {
+      state = record { parts = s.parts ∙ ap (λ xs. record (with_elems m) { segments = xs }) (sym none); named = s.named; types = s.types; shapes = s.shapes; last = omega (arith, s.last) };
+      after = λ some. absurd (omega (arith, ap length none));
+    })
+    (λ ps. record {
+      state = record { parts = ap (λ (n : Module). record n { segments = m.segments }) s.parts; named = s.named; types = s.types; shapes = s.shapes; last = omega arith };
+      after = λ some. after_some d.after 11 (length m.segments) some;
+    }))
 
 -- the types of functions, as entries of their own
 types_text : (fs : List Func) → flat_map type_text fs ≡ flat_map number_text (map (λ (f : Func). f.ty) fs)
@@ -289,15 +295,15 @@ funcs_step m w at d s =
     let count : length (Types m) ≡ length m.funcs = length-map m.funcs (λ (f : Func). f.ty) in
     let built : Builds at (entries_text 3 number_text (Types m)) d (Behind m (with_imports m) (Types m) [] 3 (length m.funcs)) =
     entries section.Funcs 3 SpellsNumber number_text IsU32 (record { ids = λ xs ps. refl; contents = λ p text xs ps v. v; counts = λ n xs ps. tt }) (λ x h p. number p x h) (Types m)
-        (record { few = subst IsU32 (sym count) w.funcs; size = subst IsCounted (types_vector m.funcs) w.sizes.funcs; each = each_type m.funcs w.each_func }) at d (Behind m (with_imports m) (Types m) [] 3 (length m.funcs)) (omega (arith, s.last))
-        (λ none. record {
-            state = record { parts = s.parts; named = s.named; types = s.types ∙ sym none; shapes = s.shapes; last = omega (arith, s.last) };
-            after = λ some. absurd (omega (arith, ap length none, count));
-        })
-        (λ ps. record {
-            state = record { parts = s.parts; named = s.named; types = refl; shapes = s.shapes; last = omega arith };
-            after = λ some. after_some d.after 3 (length (Types m)) (omega (arith, count));
-        }) in
+    (record { few = subst IsU32 (sym count) w.funcs; size = subst IsCounted (types_vector m.funcs) w.sizes.funcs; each = each_type m.funcs w.each_func }) at d (Behind m (with_imports m) (Types m) [] 3 (length m.funcs)) (omega (arith, s.last))
+    (λ none. record {
+      state = record { parts = s.parts; named = s.named; types = s.types ∙ sym none; shapes = s.shapes; last = omega (arith, s.last) };
+      after = λ some. absurd (omega (arith, ap length none, count));
+    })
+    (λ ps. record {
+      state = record { parts = s.parts; named = s.named; types = refl; shapes = s.shapes; last = omega arith };
+      after = λ some. after_some d.after 3 (length (Types m)) (omega (arith, count));
+    }) in
     with_behind m (with_imports m) (Types m) [] 3 (length m.funcs) (entries_text 3 type_text m.funcs) w (omega arith) refl at d
     (subst (λ text. Builds at text d (Behind m (with_imports m) (Types m) [] 3 (length m.funcs))) (types_entries 3 m.funcs) built)
 
@@ -406,8 +412,19 @@ same_funcs (f ∷ fs) (b ∷ bs) e =
 
 entries_past : (m : Module) (k : ℕ) → 11 < k → entries_of m k ≡ 0
 entries_past m k lt =
-    rw (ne_eqb k 1 (λ e. omega (arith, e)), ne_eqb k 2 (λ e. omega (arith, e)), ne_eqb k 3 (λ e. omega (arith, e)), ne_eqb k 4 (λ e. omega (arith, e)), ne_eqb k 5 (λ e. omega (arith, e)), ne_eqb k 6 (λ e. omega (arith, e)),
-        ne_eqb k 7 (λ e. omega (arith, e)), ne_eqb k 8 (λ e. omega (arith, e)), ne_eqb k 9 (λ e. omega (arith, e)), ne_eqb k 10 (λ e. omega (arith, e)), ne_eqb k 11 (λ e. omega (arith, e))) refl
+    rw (
+      ne_eqb k 1 (λ e. omega (arith, e)),
+      ne_eqb k 2 (λ e. omega (arith, e)),
+      ne_eqb k 3 (λ e. omega (arith, e)),
+      ne_eqb k 4 (λ e. omega (arith, e)),
+      ne_eqb k 5 (λ e. omega (arith, e)),
+      ne_eqb k 6 (λ e. omega (arith, e)),
+      ne_eqb k 7 (λ e. omega (arith, e)),
+      ne_eqb k 8 (λ e. omega (arith, e)),
+      ne_eqb k 9 (λ e. omega (arith, e)),
+      ne_eqb k 10 (λ e. omega (arith, e)),
+      ne_eqb k 11 (λ e. omega (arith, e)),
+    ) refl
 
 few_names : (m : Module) (cs : List Custom) → AllByRecursion (NamesSection m) cs → AllByRecursion (λ c. c.after ≤ 11) cs
 few_names m [] h = tt
@@ -419,9 +436,9 @@ few_names m (c ∷ cs) h = (one_name m c h.0, few_names m cs h.1)
       where
         past : (m : Module) (j : ℕ) → 0 < entries_of m j → j ≤ 11
         past m j k = elim (leb j 11) as (λ b. leb j 11 ≡ b → j ≤ 11) [
-            | true ↦ λ e. leb-true j 11 e
-            | false ↦ λ e. absurd (omega (arith, entries_past m j (leb-false j 11 e), k))
-          ] refl
+          | true ↦ λ e. leb-true j 11 e
+          | false ↦ λ e. absurd (omega (arith, entries_past m j (leb-false j 11 e), k))
+        ] refl
 
 whole : (m : Module) (len : ℕ) (d : Draft) → Writable m → State m (with_segments m) (Types m) (Shapes m) 11 12 d → (whole_module len d).«module» ≡ m
 whole m len d w s =
@@ -445,3 +462,20 @@ spells_encoded m w =
   where
     decoded : Module → Marks → Decoded
     decoded n k = record { «module» = n; marks = k }
+
+-- so the text is read as the module
+pub reads_encoded : (m : Module) → Writable m → (k : Marks) × (module_at the_bounds (encoded m) ≡ Ok (record { «module» = m; marks = k }))
+reads_encoded m w = let s = spells_encoded m w in (s.0, module_again the_bounds (encoded m) m s.0 s.1 w.limits)
+
+-- what is read as the module, unless memory ran out
+pub read_again : (m : Module) (bytes : List ℕ) (r : Result Decoded DecodeFault) → bytes ≡ encoded m → Gives (λ d. d) r (module_at the_bounds bytes) → Writable m → MatchResult r (λ d. d.«module» ≡ m) (λ f. f ≡ OutOfMemory)
+read_again m bytes r e g w = let s = reads_encoded m w in given m s.0 r (subst (Gives (λ (d : Decoded). d) r) (ap (module_at the_bounds) e ∙ s.1) g)
+  where
+    given : (m : Module) (k : Marks) (r : Result Decoded DecodeFault) → Gives (λ d. d) r (Ok (record { «module» = m; marks = k })) → MatchResult r (λ d. d.«module» ≡ m) (λ f. f ≡ OutOfMemory)
+    given m k (Ok d) g = sym (ap (λ (x : Decoded). x.«module») (same (record { «module» = m; marks = k }) d g))
+      where
+        same : (x y : Decoded) → ok x ≡ ok y → x ≡ y
+        same x y e = cc
+    given m k (Err OutOfMemory) g = refl
+    given m k (Err (Malformed at word)) g = absurd cc
+    given m k (Err (Limit at word)) g = absurd cc

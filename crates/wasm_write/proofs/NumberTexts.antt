@@ -66,9 +66,9 @@ digits-are negative bound (suc more) n lt =
     elim (ltb n bound) as (λ b. ltb n bound ≡ b → Digits negative bound n (cond b (low_digit negative n ∷ []) ((128 + low_digit negative n) ∷ digits negative bound more (n / 128)))) [
       | true ↦ λ e. one-digit negative bound n (ltb-true n bound e)
       | false ↦ λ e.
-            let le : bound ≤ n = ltb-false n bound e in
-            let small : n < 128 * (bound * 128 ^ more) = rw (← power bound more) lt in
-            more-digits negative bound n (digits negative bound more (n / 128)) le (digits-are negative bound more (n / 128) (omega arith))
+          let le : bound ≤ n = ltb-false n bound e in
+          let small : n < 128 * (bound * 128 ^ more) = rw (← power bound more) lt in
+          more-digits negative bound n (digits negative bound more (n / 128)) le (digits-are negative bound more (n / 128) (omega arith))
     ] refl
 
 -- their value
@@ -79,9 +79,9 @@ value bound (suc more) n few lt =
     elim (ltb n bound) as (λ b. ltb n bound ≡ b → base_128 (cond b (low_digit false n ∷ []) ((128 + low_digit false n) ∷ digits false bound more (n / 128))) ≡ n) [
       | true ↦ λ e. let l : n < bound = ltb-true n bound e in omega arith
       | false ↦ λ e.
-            let small : n < 128 * (bound * 128 ^ more) = rw (← power bound more) lt in
-            let rest : base_128 (digits false bound more (n / 128)) ≡ n / 128 = value bound more (n / 128) few (omega arith) in
-            omega arith
+          let small : n < 128 * (bound * 128 ^ more) = rw (← power bound more) lt in
+          let rest : base_128 (digits false bound more (n / 128)) ≡ n / 128 = value bound more (n / 128) few (omega arith) in
+          omega arith
     ] refl
 
 complement : (bound more n : ℕ) → bound ≤ 128 → n < bound * 128 ^ more → base_128 (digits true bound more n) + suc n ≡ 128 ^ length (digits true bound more n)
@@ -91,9 +91,9 @@ complement bound (suc more) n few lt =
     elim (ltb n bound) as (λ b. ltb n bound ≡ b → base_128 (cond b (low_digit true n ∷ []) ((128 + low_digit true n) ∷ digits true bound more (n / 128))) + suc n ≡ 128 ^ length (cond b (low_digit true n ∷ []) ((128 + low_digit true n) ∷ digits true bound more (n / 128)))) [
       | true ↦ λ e. let l : n < bound = ltb-true n bound e in omega arith
       | false ↦ λ e.
-            let small : n < 128 * (bound * 128 ^ more) = rw (← power bound more) lt in
-            let rest = complement bound more (n / 128) few (omega arith) in
-            joined n (base_128 (digits true bound more (n / 128))) (length (digits true bound more (n / 128))) rest
+          let small : n < 128 * (bound * 128 ^ more) = rw (← power bound more) lt in
+          let rest = complement bound more (n / 128) few (omega arith) in
+          joined n (base_128 (digits true bound more (n / 128))) (length (digits true bound more (n / 128))) rest
     ] refl
   where
     joined : (n value len : ℕ) → value + suc (n / 128) ≡ 128 ^ len → ((128 + (127 - n % 128)) % 128 + 128 * value) + suc n ≡ 128 ^ suc len
@@ -174,15 +174,15 @@ unfolding signed_text SpellsWord32
 spells_word32 at n lt =
     elim (ltb n (2 ^ 31)) as (λ b. ltb n (2 ^ 31) ≡ b → SpellsWord32 at (cond b (digits false 64 9 n) (digits true 64 9 (2 ^ 32 - suc n))) n) [
       | true ↦ λ e.
-            let l : n < 2 ^ 31 = ltb-true n (2 ^ 31) e in
-            let p = is_positive n 4 (omega arith) (omega arith) in
-            (pos n, (p.are, p.few, p.is, record { sfits = l }), refl)
+          let l : n < 2 ^ 31 = ltb-true n (2 ^ 31) e in
+          let p = is_positive n 4 (omega arith) (omega arith) in
+          (pos n, (p.are, p.few, p.is, record { sfits = l }), refl)
       | false ↦ λ e.
-            let l : 2 ^ 31 ≤ n = ltb-false n (2 ^ 31) e in
-            let u = 2 ^ 32 - suc n in
-            let p = is_negative u 4 (omega arith) (omega arith) in
-            let s : u < 2 ^ 31 = omega arith in
-            (negsuc u, (p.are, p.few, p.is, record { sfits = s }), omega arith)
+          let l : 2 ^ 31 ≤ n = ltb-false n (2 ^ 31) e in
+          let u = 2 ^ 32 - suc n in
+          let p = is_negative u 4 (omega arith) (omega arith) in
+          let s : u < 2 ^ 31 = omega arith in
+          (negsuc u, (p.are, p.few, p.is, record { sfits = s }), omega arith)
     ] refl
 
 pub spells_word64 : (at n : ℕ) → n < 2 ^ 64 → SpellsWord64 at (signed_text 64 n) n
@@ -190,15 +190,15 @@ unfolding signed_text SpellsWord64
 spells_word64 at n lt =
     elim (ltb n (2 ^ 63)) as (λ b. ltb n (2 ^ 63) ≡ b → SpellsWord64 at (cond b (digits false 64 9 n) (digits true 64 9 (2 ^ 64 - suc n))) n) [
       | true ↦ λ e.
-            let l : n < 2 ^ 63 = ltb-true n (2 ^ 63) e in
-            let p = is_positive n 9 (omega arith) (omega arith) in
-            (pos n, (p.are, p.few, p.is, record { sfits = l }), refl)
+          let l : n < 2 ^ 63 = ltb-true n (2 ^ 63) e in
+          let p = is_positive n 9 (omega arith) (omega arith) in
+          (pos n, (p.are, p.few, p.is, record { sfits = l }), refl)
       | false ↦ λ e.
-            let l : 2 ^ 63 ≤ n = ltb-false n (2 ^ 63) e in
-            let u = 2 ^ 64 - suc n in
-            let p = is_negative u 9 (omega arith) (omega arith) in
-            let s : u < 2 ^ 63 = omega arith in
-            (negsuc u, (p.are, p.few, p.is, record { sfits = s }), omega arith)
+          let l : 2 ^ 63 ≤ n = ltb-false n (2 ^ 63) e in
+          let u = 2 ^ 64 - suc n in
+          let p = is_negative u 9 (omega arith) (omega arith) in
+          let s : u < 2 ^ 63 = omega arith in
+          (negsuc u, (p.are, p.few, p.is, record { sfits = s }), omega arith)
     ] refl
 
 pub short_number : (n : ℕ) → n < 2 ^ 32 → length (number_text n) < 2 ^ 32

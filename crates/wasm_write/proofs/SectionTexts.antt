@@ -27,8 +27,8 @@ elem_ e w at =
     let c = vector_text number_text e.funcs in
     then _ _ at a (b ++ c) e.table e (number at e.table w.0)
     (then _ _ (at + length a) b c e.offset e (instrs e.offset w.1 (at + length a))
-        (then_done _ (λ fs. record { table = e.table; offset = e.offset; funcs = fs }) (at + length a + length b) c e.funcs
-            (list SpellsNumber number_text IsU32 (λ x h p. number p x h) e.funcs w.2 w.3 (at + length a + length b))))
+    (then_done _ (λ fs. record { table = e.table; offset = e.offset; funcs = fs }) (at + length a + length b) c e.funcs
+    (list SpellsNumber number_text IsU32 (λ x h p. number p x h) e.funcs w.2 w.3 (at + length a + length b))))
 
 pub segment_ : Spelled SpellsSegment segment_text SegmentWritable
 unfolding SpellsSegment
@@ -38,4 +38,4 @@ segment_ s w at =
     let c = sized_text s.bytes in
     then _ _ at a (b ++ c) s.memory s (number at s.memory w.0)
     (then _ _ (at + length a) b c s.offset s (instrs s.offset w.1 (at + length a))
-        (then_done _ (λ bs. record { memory = s.memory; offset = s.offset; bytes = bs }) (at + length a + length b) c s.bytes (bytes (at + length a + length b) s.bytes w.2)))
+    (then_done _ (λ bs. record { memory = s.memory; offset = s.offset; bytes = bs }) (at + length a + length b) c s.bytes (bytes (at + length a + length b) s.bytes w.2)))

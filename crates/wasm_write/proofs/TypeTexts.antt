@@ -100,7 +100,7 @@ func_type t w at =
     let results = list SpellsValueType value_type_text (λ t. Unit {0}) value_type t.results w.1 (always t.results) (at + 1 + length a) in
     then _ _ at (0x60 ∷ []) (a ++ b) 0x60 t (the_byte at 0x60)
     (then _ _ (at + 1) a b (t.params, params.0) t params.1
-        (then_done _ (λ rs. record { params = t.params; results = rs }) (at + 1 + length a) b t.results results))
+    (then_done _ (λ rs. record { params = t.params; results = rs }) (at + 1 + length a) b t.results results))
 
 flag : (at : ℕ) (b : Bool) → SpellsFlag at (mutability_code b ∷ []) b
 unfolding SpellsFlag
@@ -115,13 +115,13 @@ unfolding SpellsLimits SpellsGreatest Done
 between at n None h w =
     then _ _ at (0 ∷ []) (number_text n) false (limits_of n None) (flag at false)
     (subst (λ text. Then SpellsNumber (λ least. Then (SpellsGreatest false) (λ greatest. Done (limits_of least greatest))) (at + 1) text (limits_of n None)) (append-nil (number_text n))
-        (then _ _ (at + 1) (number_text n) [] n (limits_of n None) (number (at + 1) n h)
-            (then_done _ (λ k. limits_of n k) (at + 1 + length (number_text n)) [] None (refl, refl))))
+    (then _ _ (at + 1) (number_text n) [] n (limits_of n None) (number (at + 1) n h)
+    (then_done _ (λ k. limits_of n k) (at + 1 + length (number_text n)) [] None (refl, refl))))
 between at n (Some k) h w =
     then _ _ at (1 ∷ []) (number_text n ++ number_text k) true (limits_of n (Some k)) (flag at true)
     (then _ _ (at + 1) (number_text n) (number_text k) n (limits_of n (Some k)) (number (at + 1) n h)
-        (then_done _ (λ g. limits_of n g) (at + 1 + length (number_text n)) (number_text k) (Some k)
-            (then_done _ (λ g. Some g) (at + 1 + length (number_text n)) (number_text k) k (number (at + 1 + length (number_text n)) k w))))
+    (then_done _ (λ g. limits_of n g) (at + 1 + length (number_text n)) (number_text k) (Some k)
+    (then_done _ (λ g. Some g) (at + 1 + length (number_text n)) (number_text k) k (number (at + 1 + length (number_text n)) k w))))
 
 pub limits : Spelled SpellsLimits limits_text AreLimits
 limits l w at = between at l.min l.max w.0 w.1
@@ -153,7 +153,7 @@ import_ i w at =
     let c = import_kind_text i.kind in
     then _ _ at a (b ++ c) i.«module» i (name at i.«module» w.0)
     (then _ _ (at + length a) b c i.name i (name (at + length a) i.name w.1)
-        (then_done _ (λ k. record { «module» = i.«module»; name = i.name; kind = k }) (at + length a + length b) c i.kind (import_kind (at + length a + length b) i.kind w.2)))
+    (then_done _ (λ k. record { «module» = i.«module»; name = i.name; kind = k }) (at + length a + length b) c i.kind (import_kind (at + length a + length b) i.kind w.2)))
 
 export_kind : (at : ℕ) (k : ExportKind) → IsU32 (export_index k) → SpellsExportKind at (export_kind_text k) k
 unfolding SpellsExportKind

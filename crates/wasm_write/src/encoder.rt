@@ -1,12 +1,17 @@
-ghost use Rattle.std.specs.Prelude.{◌≡◌, ◌++◌, IfOk, OnOk};
+ghost use Rattle.std.specs.Prelude.{◌≡◌, ◌++◌, IfOk, OnOk, Ok, MatchResult};
+ghost use Rattle.wasm_syntax.specs.declared.module.Marks.{Marks};
+ghost use Rattle.binary_grammar.specs.declared.fault.DecodeFault.{DecodeFault};
+ghost use Rattle.binary_grammar.specs.Bounds.{the_bounds};
+ghost use Rattle.binary_grammar.specs.ModuleGrammar.{Spells};
+ghost use Rattle.binary_grammar.specs.SectionReading.{module_at};
+ghost use Rattle.wasm_write.specs.Writable.{Writable};
 ghost use Rattle.wasm_write.specs.Encoding.{first_sections, last_sections, encoded};
 
 use crate::fault::EncodeFault;
 use crate::number::write_bytes;
-use crate::sections::{
-    write_customs, write_funcs, write_section_of, write_start, write_tables,
-};
+use crate::sections::{write_customs, write_funcs, write_section_of, write_start, write_tables};
 use std::alloc::Global;
+use wasm_binary::{DecodeFault, Decoded, decode};
 use wasm_syntax::Module;
 use wasm_values::{Bytes, OutOfMemory};
 
@@ -60,11 +65,26 @@ fn write_module(alloc: Global, module: &Module) -> Result<Bytes, OutOfMemory>
     Ok(out)
 }
 
-/// The one shortest text of a module, which decodes to it where it is writable.
+/// The one shortest text of a module.
 ///
-/// Takes time and memory in proportion to the text.
+/// Takes time and memory in proportion to the text. A module that is not writable has a text too, of which nothing more is
+/// promised.
 pub fn encode(alloc: Global, module: &Module) -> Result<Bytes, EncodeFault>
     ensures text { IfOk result (λ bytes. bytes ≡ encoded «module».now) }
+    // The text of a writable module spells it.
+    ensures spelled { Writable «module».now → IfOk result (λ bytes. (k : Marks) × Spells bytes «module».now k) }
+    // So that it is what the text is read as.
+    ensures read { Writable «module».now → IfOk result (λ bytes. (k : Marks) × (module_at the_bounds bytes ≡ Ok (record { «module» = «module».now; marks = k }))) }
 {
     Ok(write_module(alloc, module)?)
+}
+
+/// A module's text, read again: the module, or want of memory.
+pub fn decoded_again(alloc: Global, module: &Module) -> Result<Decoded, DecodeFault>
+    ensures { Writable «module».now → MatchResult result (λ again. again.«module» ≡ «module».now) (λ fault. fault ≡ DecodeFault.OutOfMemory) }
+{
+    match encode(alloc, module) {
+        Ok(text) => decode(alloc, text.as_slice()),
+        Err(EncodeFault::OutOfMemory) => Err(DecodeFault::OutOfMemory),
+    }
 }

@@ -13,5 +13,5 @@ mod sections;
 mod tests;
 mod types;
 
-pub use encoder::encode;
+pub use encoder::{decoded_again, encode};
 pub use fault::EncodeFault;

@@ -25,7 +25,10 @@ fn shortest_spelling(rt: HostRuntime) -> Result<(), Fail> {
     ];
     let short = [1, 4, 1, 0x60, 0, 0, 3, 2, 1, 0, 0x0a, 4, 1, 2, 0, 0x0b];
     let text = written(rt.alloc(), &with_header(rt.alloc(), &long)?)?;
-    assert_eq!(rt; text.as_slice(), with_header(rt.alloc(), &short)?.as_slice());
+    assert_eq!(rt;
+        text.as_slice(),
+        with_header(rt.alloc(), &short)?.as_slice()
+    );
     Ok(())
 }
 

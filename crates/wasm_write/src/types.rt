@@ -5,9 +5,7 @@ ghost use Rattle.wasm_write.specs.Encoding.{sized_text, block_type_code, func_ty
 use crate::entry::{Entry, value_type_code, write_vector};
 use crate::number::{write_number, write_sized};
 use std::alloc::Global;
-use wasm_syntax::{
-    Export, ExportKind, FuncType, GlobalType, Import, ImportKind, Limits,
-};
+use wasm_syntax::{Export, ExportKind, FuncType, GlobalType, Import, ImportKind, Limits};
 use wasm_values::{Bytes, OutOfMemory, Text, ValType};
 
 /// The byte of a block type.
