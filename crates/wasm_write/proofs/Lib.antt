@@ -1,0 +1,7 @@
+mod Written
+mod NumberTexts
+mod TypeTexts
+mod CodeTexts
+mod SectionTexts
+mod Builds
+mod ModuleTexts
