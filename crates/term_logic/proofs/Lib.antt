@@ -1,0 +1,15 @@
+pub mod Cells
+pub mod Formulas
+pub mod Interned
+pub mod Tables
+pub mod Trees
+pub mod Truths
+pub mod Sameness
+pub mod Comparisons
+pub mod Subterms
+pub mod Grounded
+pub mod GroundTruth
+pub mod LinearLists
+pub mod AtomLists
+pub mod LinearForms
+pub mod NormalForms
