@@ -22,7 +22,7 @@ pub among-append : (xs ys : List Term) (x : Term) → among (xs ++ ys) x ≡ (am
 among-append [] ys x = refl
 among-append (z ∷ xs) ys x = ap (λ b. same z x || b) (among-append xs ys x) ∙ sym (or-assoc (same z x) (among xs x) (among ys x))
 
-abbrev without : Term → List Term → List Term
+abbrev pub without : Term → List Term → List Term
 without z ys = filter (λ y. not (same z y)) ys
 
 -- a list without a term has the others

@@ -26,17 +26,17 @@ list_all-append p (x ∷ xs) ys = ap (λ b. p x && b) (list_all-append p xs ys) 
     and-assoc true b c = refl
     and-assoc false b c = refl
 
-abbrev grounded : Term → Bool
+abbrev pub grounded : Term → Bool
 grounded t = list_all is_ground (subterms t)
 
-abbrev layer_value : Term-F Term → ℤ
+abbrev pub layer_value : Term-F Term → ℤ
 layer_value l = value_here no_numbers (map-Term Term ℤ (value no_numbers) l)
 
 value-roll : (l : Term-F Term) → value no_numbers (roll-Term l) ≡ layer_value l
 value-roll l = fold-roll-Term ℤ (value_here no_numbers) l
 
 -- whether a term is ground all through, by its layer
-grounded-roll : (l : Term-F Term) → grounded (roll-Term l) ≡ ((names_nothing_here l && is_small (layer_value l)) && list_all is_ground (joined_here (map-Term Term (List Term) subterms l)))
+pub grounded-roll : (l : Term-F Term) → grounded (roll-Term l) ≡ ((names_nothing_here l && is_small (layer_value l)) && list_all is_ground (joined_here (map-Term Term (List Term) subterms l)))
 grounded-roll l =
     ap (list_all is_ground) (subterms-roll l)
     ∙ (λ j. (names_nothing_here (out-roll-Term l j) && is_small (value-roll l j)) && list_all is_ground (joined_here (map-Term Term (List Term) subterms l)))

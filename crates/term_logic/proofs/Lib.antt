@@ -13,3 +13,7 @@ pub mod LinearLists
 pub mod AtomLists
 pub mod LinearForms
 pub mod NormalForms
+pub mod Rings
+pub mod Replacing
+pub mod NormalValue
+pub mod GroundLaws

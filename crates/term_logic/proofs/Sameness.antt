@@ -159,7 +159,7 @@ form-test (form.And g h) f = refl
 form-test (form.Or g h) f = refl
 form-test (form.Imp g h) f = refl
 
-map_map_form : {X Y Z : Type 0} (g : X → Y) (h : Y → Z) (l : Formula-F X) → map-Formula Y Z h (map-Formula X Y g l) ≡ map-Formula X Z (λ x. h (g x)) l
+pub map_map_form : {X Y Z : Type 0} (g : X → Y) (h : Y → Z) (l : Formula-F X) → map-Formula Y Z h (map-Formula X Y g l) ≡ map-Formula X Z (λ x. h (g x)) l
 map_map_form g h form.True = refl
 map_map_form g h form.False = refl
 map_map_form g h (form.Eq a b) = refl
