@@ -5,6 +5,7 @@ mod facts;
 mod goals;
 mod instance;
 mod items;
+pub mod laws;
 mod logic;
 mod step;
 
