@@ -2,7 +2,7 @@
 use Rattle.std.proofs.Common.{◌≡◌, Bool, true, false, not, ◌&&◌, ◌||◌, IsTrue, Option, Some, None, refl, sym, ap, subst, ◌∙◌, true≢false}
 use Rattle.std.proofs.lemmas.Option.{same_Some}
 use Rattle.term_logic.specs.declared.term.Formula.{Formula, out-Formula, map-Formula, fold_out-Formula}
-use Rattle.term_logic.specs.declared.term.Formula.TheOpen.{Formula-F, True, False, Eq, Le, Lt, Not, And, Or, Imp}
+use Rattle.term_logic.specs.declared.term.Formula.TheOpen.{Formula-F, True, False, Not, And, Or, Imp}
 use Rattle.term_logic.specs.declared.term.Formula.TheVariants as formula
 use Rattle.term_logic.specs.Views.{true_here, false_here, not_here, and_here, or_here, imp_here, is_true, is_false, not_of, and_of, or_of, imp_of}
 use Rattle.term_logic.specs.Meaning.{Numbers, holds, holds_here}

@@ -1,6 +1,5 @@
 -- Each rule keeps truth, in the order of the rules.
-use Rattle.std.proofs.Common.{◌≡◌, ℕ, zero, suc, Bool, true, false, not, ◌&&◌, ◌||◌, if◌then◌else◌, IsTrue, List, [], ◌∷◌, slice_get, Option, Some, None, refl, sym, ap, subst, ◌∙◌, arith, true≢false}
-use Rattle.std.specs.List.{All}
+use Rattle.std.proofs.Common.{◌≡◌, ℕ, zero, suc, Bool, true, false, not, ◌&&◌, ◌||◌, if◌then◌else◌, IsTrue, List, [], ◌∷◌, slice_get, Option, Some, None, refl, sym, subst, ◌∙◌, true≢false}
 use Rattle.std.specs.Option.{option_map, option_and_then}
 use Rattle.std.proofs.lemmas.Option.{same_Some}
 use Rattle.std.proofs.lemmas.List.Elements.{All-head, All-tail}
@@ -9,16 +8,16 @@ use Rattle.term_logic.specs.declared.term.Formula.TheVariants as formula
 use Rattle.term_logic.specs.Ground.{both}
 use Rattle.term_logic.specs.Meaning.{Numbers, holds}
 use Rattle.term_logic.specs.Same.{passes, same_formula}
-use Rattle.term_logic.specs.Views.{is_true, is_false, not_of, and_of, or_of, imp_of}
+use Rattle.term_logic.specs.Views.{is_false, not_of, and_of, or_of, imp_of}
 use Rattle.term_logic.proofs.Truths.{and_true}
 use Rattle.term_logic.proofs.Truths.{both as both_true}
 use Rattle.bitvector_rules.specs.declared.step.Rule.{Rule}
 use Rattle.bitvector_rules.specs.declared.step.Rule.TheVariants.{Hyp, True, And, Left, Right, Orl, Orr, Cases, Assume, Apply, Contra, Refute, Clash, Explode}
 use Rattle.bitvector_rules.specs.declared.step.Ref.{Ref}
 use Rattle.bitvector_rules.specs.declared.step.Ref.TheVariants as ref
-use Rattle.bitvector_rules.specs.declared.step.Step.{Step, Step-F, out-Step}
-use Rattle.bitvector_rules.specs.Facts.{is_empty, one_of, two_of, fact_at, one_premise, two_premises}
-use Rattle.bitvector_rules.specs.Goals.{Goals, when, rule_goals, step_goals}
+use Rattle.bitvector_rules.specs.declared.step.Step.{Step, out-Step}
+use Rattle.bitvector_rules.specs.Facts.{is_empty, fact_at, one_premise, two_premises}
+use Rattle.bitvector_rules.specs.Goals.{Goals, when, rule_goals}
 use Rattle.bitvector_rules.specs.Truth.{Holds, AllHold, AllMet, StepIsSound}
 use Rattle.bitvector_rules.proofs.FormLemmas.{passed, holds-true, holds-false, holds-not, holds-and, holds-or, holds-imp, false_fails, denied_holds, same_holds, same_held}
 
