@@ -1,12 +1,12 @@
 -- What the recursion over a step unfolds to.
-use Rattle.std.proofs.Common.{◌≡◌, ℕ, zero, suc, ◌-◌, Bool, ◌&&◌, List, [], ◌∷◌, ◌++◌, map, length, slice_get, refl, sym, ap, ◌∙◌}
+use Rattle.std.proofs.Common.{◌≡◌, ℕ, zero, suc, ◌-◌, Bool, ◌&&◌, List, [], ◌∷◌, ◌++◌, map, length, slice_get, refl, ap, ◌∙◌}
 use Rattle.std.proofs.lemmas.List.{length-map}
 use Rattle.std.specs.Option.{option_map}
 use Rattle.term_logic.specs.declared.term.Formula.{Formula}
 use Rattle.term_logic.specs.Same.{passes, same_formula}
 use Rattle.bitvector_rules.specs.declared.step.Step.{Step, out-Step, map-Step, fold_out-Step}
 use Rattle.bitvector_rules.specs.Goals.{step_goals}
-use Rattle.derivation_check.specs.Derivations.{all_pass, reach, all_reach, Tested, instance_here, tested, is_instance, conclusion}
+use Rattle.derivation_check.specs.Derivations.{all_pass, reach, all_reach, Tested, instance_here, tested, is_instance, conclusion_of}
 
 module _ (X Y : Type 0) (c : X → Formula) (k : X → List Formula → List Formula → Bool) (v : Y → X) where
   pass_map : (ys : List Y) (hyps earlier : List Formula) → all_pass X c k (map v ys) hyps earlier ≡ all_pass Y (λ y. c (v y)) (λ y. k (v y)) ys hyps earlier
@@ -34,12 +34,12 @@ tested_out : (s : Step) → tested s ≡ ((map-Step Step Tested tested (out-Step
 unfolding tested
 tested_out s = fold_out-Step Tested (λ l. (l.formula, instance_here l)) s
 
-same_conclusion : (s : Step) → (tested s).0 ≡ conclusion s
+same_conclusion : (s : Step) → (tested s).0 ≡ conclusion_of s
 same_conclusion s = ap (λ (t : Tested). t.0) (tested_out s)
 
 -- a step is an instance exactly where its rule and its sub-derivations say so
 pub instance_is : (s : Step) (hyps earlier : List Formula)
-    → is_instance s hyps earlier ≡ passes (step_goals hyps earlier (out-Step s)) (all_reach Step conclusion is_instance (hyps ++ earlier) (out-Step s).subs)
+    → is_instance s hyps earlier ≡ passes (step_goals hyps earlier (out-Step s)) (all_reach Step conclusion_of is_instance (hyps ++ earlier) (out-Step s).subs)
 instance_is s hyps earlier =
     ap (λ (t : Tested). t.1 hyps earlier) (tested_out s)
     ∙ (λ j. passes (step_goals hyps earlier (out-Step s)) (λ gs. all_map Tested Step (λ t. t.0) (λ t. t.1) tested (hyps ++ earlier) (out-Step s).subs gs j))

@@ -1,6 +1,6 @@
 -- A measure of the check of steps: each step weighs more than all steps of its sub-derivations.
 use Rattle.std.proofs.Common.{◌≡◌, ℕ, zero, suc, ◌+◌, ◌<◌, ◌≤◌, List, [], ◌∷◌, map, length, get_or, ap, arith}
-use Rattle.bitvector_rules.specs.declared.step.Step.{Step, Step-F, out-Step, map-Step, fold-Step, fold_out-Step}
+use Rattle.bitvector_rules.specs.declared.step.Step.{Step, Step-F, out-Step, fold-Step, fold_out-Step}
 
 abbrev pub total : List ℕ → ℕ
 total [] = 0

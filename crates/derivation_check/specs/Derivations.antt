@@ -1,5 +1,5 @@
 -- What a derivation is: a list of steps, each an instance of its rule over the hypotheses and the conclusions before it.
-use Rattle.std.specs.Prelude.{ℕ, suc, ◌-◌, Bool, true, false, ◌&&◌, if◌then◌else◌, List, [], ◌∷◌, ◌++◌, length, slice_get, Option, IsTrue}
+use Rattle.std.specs.Prelude.{ℕ, suc, ◌-◌, Bool, true, false, ◌&&◌, if◌then◌else◌, List, [], ◌∷◌, ◌++◌, length, slice_get, IsTrue}
 use Rattle.std.specs.Option.{option_map}
 use Rattle.term_logic.specs.declared.term.Formula.{Formula}
 use Rattle.term_logic.specs.Meaning.{Numbers}
@@ -49,13 +49,13 @@ abbrev pub Instance : List Formula → List Formula → Step → Type 0
 Instance hyps earlier s = IsTrue (is_instance s hyps earlier)
 
 -- The conclusion of a step.
-abbrev pub conclusion : Step → Formula
-conclusion s = (out-Step s).formula
+abbrev pub conclusion_of : Step → Formula
+conclusion_of s = (out-Step s).formula
 
 -- Whether steps derive the goal from the hypotheses: each is an instance over these and the conclusions before it, and
 -- the last conclusion is the goal.
 abbrev pub derives : List Formula → Formula → List Step → Bool
-derives hyps goal steps = reach Step conclusion is_instance hyps goal steps
+derives hyps goal steps = reach Step conclusion_of is_instance hyps goal steps
 
 abbrev pub Derives : List Formula → Formula → List Step → Type 0
 Derives hyps goal steps = IsTrue (derives hyps goal steps)
@@ -63,7 +63,7 @@ Derives hyps goal steps = IsTrue (derives hyps goal steps)
 -- How many steps come before the first that is no instance, or how many there are.
 abbrev pub good_steps : List Formula → List Formula → List Step → ℕ
 good_steps hyps earlier [] = 0
-good_steps hyps earlier (s ∷ ss) = if is_instance s hyps earlier then suc (good_steps hyps (earlier ++ conclusion s ∷ []) ss) else 0
+good_steps hyps earlier (s ∷ ss) = if is_instance s hyps earlier then suc (good_steps hyps (earlier ++ conclusion_of s ∷ []) ss) else 0
 
 -- The position of the first step that is no instance, or the number of steps where all are and the last isn't the goal.
 abbrev pub first_bad : List Formula → List Step → ℕ

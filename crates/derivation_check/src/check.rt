@@ -6,7 +6,7 @@ ghost use Rattle.bitvector_rules.specs.declared.step.Step.{Step};
 ghost use Rattle.bitvector_rules.specs.Facts.{AllWithin};
 ghost use Rattle.bitvector_rules.specs.Goals.{goal_of, GoalsWithin};
 ghost use Rattle.bitvector_rules.specs.Steps.{is_admissible, all_admissible};
-ghost use Rattle.derivation_check.specs.Derivations.{conclusion, is_instance, all_reach, derives, good_steps, checked};
+ghost use Rattle.derivation_check.specs.Derivations.{conclusion_of, is_instance, all_reach, derives, good_steps, checked};
 ghost use Rattle.derivation_check.specs.Facts.{hyps_at, earlier_at, facts_at};
 
 use bitvector_rules::{Facts, Step, SubGoal, ends_with, sub_goals};
@@ -44,7 +44,8 @@ fn derives_goal(
 {
     let count = added.len();
     added.push(goal.assumption.copy(alloc)?)?;
-    let good = good_steps(alloc, table, hyps, added, count + 1, steps)?;
+    let base = added.len();
+    let good = good_steps(alloc, table, hyps, added, base, steps)?;
     added.truncate(count);
     Ok(good == steps.len() && ends_with(table, steps, &goal.goal))
 }
@@ -63,7 +64,7 @@ fn all_derive(
     requires added { AllWithin (length table.old) added.old }
     requires goals { GoalsWithin (length table.old) goals.now }
     requires subs { IsTrue (list_all all_admissible subs.now) }
-    ensures derive { IfOk result (λ b. b ≡ all_reach Step conclusion is_instance (facts_at table.old hyps.now added.old) subs.now (map (goal_of table.old) goals.now)) }
+    ensures derive { IfOk result (λ b. b ≡ all_reach Step conclusion_of is_instance (facts_at table.old hyps.now added.old) subs.now (map (goal_of table.old) goals.now)) }
     ensures added { OnOk result (added.new ≡ added.old) }
     ensures kept { Extends table.old table.new }
 {
@@ -95,7 +96,7 @@ fn is_instance(
     requires base { base ≤ length added.old }
     requires step { IsTrue (is_admissible step.now) }
     requires within { formula_bound conclusion.now ≤ length table.old }
-    requires conclusion { formula_of table.old conclusion.now ≡ conclusion step.now }
+    requires conclusion { formula_of table.old conclusion.now ≡ conclusion_of step.now }
     ensures instance { IfOk result (λ b. b ≡ is_instance step.now (hyps_at table.old hyps.now added.old base) (earlier_at table.old added.old base)) }
     ensures added { OnOk result (added.new ≡ added.old) }
     ensures kept { Extends table.old table.new }
@@ -136,16 +137,14 @@ fn good_steps(
     ensures added { OnOk result (take (length added.old) added.new ≡ added.old) }
     ensures kept { Extends table.old table.new }
 {
-    let mut good = 0;
-    for step in steps {
+    for (good, step) in steps.iter().enumerate() {
         let conclusion = table.put_formula(&step.formula)?;
         if !is_instance(alloc, table, hyps, added, base, step, &conclusion)? {
             return Ok(good);
         }
         added.push(conclusion)?;
-        good += 1;
     }
-    Ok(good)
+    Ok(steps.len())
 }
 
 /// Whether the steps derive the goal from the hypotheses, and if not, which step is the first that is bad.
