@@ -67,17 +67,14 @@ fn cases_goals(
     let Some(p) = facts.one(table, refs) else {
         return Ok(None);
     };
-    let Some((f, g)) = p.or_of(table) else {
+    let Some((first, second)) = p.or_of(table) else {
         return Ok(None);
     };
-    let f = f.copy(alloc)?;
-    let g = g.copy(alloc)?;
-    let mut goals = one_goal(alloc, table, f, conclusion.copy(alloc)?)?;
+    let first = first.copy(alloc)?;
+    let assumption = second.copy(alloc)?;
+    let mut goals = one_goal(alloc, table, first, conclusion.copy(alloc)?)?;
     let goal = conclusion.copy(alloc)?;
-    goals.push(SubGoal {
-        assumption: g,
-        goal,
-    })?;
+    goals.push(SubGoal { assumption, goal })?;
     Ok(Some(goals))
 }
 
