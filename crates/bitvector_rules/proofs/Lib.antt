@@ -1,0 +1,4 @@
+pub mod FactLemmas
+pub mod FormLemmas
+pub mod GoalLemmas
+pub mod RuleLaws

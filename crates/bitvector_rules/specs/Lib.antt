@@ -1,0 +1,4 @@
+pub mod Facts
+pub mod Goals
+pub mod Steps
+pub mod Truth

@@ -1,0 +1,9 @@
+//! Laws over the definitions alone.
+
+ghost use Rattle.bitvector_rules.specs.declared.step.Step.{Step};
+ghost use Rattle.bitvector_rules.specs.Truth.{StepIsSound};
+
+/// A step whose premises are true and whose sub-derivations keep truth draws a true conclusion.
+pub fn rules_are_sound()
+    ensures { (s : Step) → StepIsSound s }
+{}

@@ -1,0 +1,15 @@
+//! The rules of derivations, and whether a step is an instance of its rule.
+#![tactic(auto)]
+
+mod facts;
+mod goals;
+mod instance;
+mod items;
+pub mod laws;
+mod logic;
+mod step;
+
+pub use facts::Facts;
+pub use goals::{SubGoal, sub_goals};
+pub use instance::{ends_with, is_instance, says};
+pub use step::{Ref, Rule, Step};

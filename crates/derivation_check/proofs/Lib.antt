@@ -1,0 +1,6 @@
+pub mod FactLemmas
+pub mod Progress
+pub mod StepLemmas
+pub mod Steps
+pub mod Truth
+pub mod Weights
