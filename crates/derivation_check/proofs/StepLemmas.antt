@@ -148,7 +148,7 @@ trimmed old new x n is kept =
 -- ---- a goal under its assumption
 
 module _ (ts us : List Term) (grown : Extends ts us) (hyps added pushed : List IdFormula) (a g : IdFormula) (low : formula_bound g ≤ length ts) (base good : ℕ) (steps : List Step)
-  (push : pushed ≡ added ++ a ∷ []) (is : base ≡ length pushed) (counts : good ≡ good_steps (hyps_at ts hyps pushed base) (earlier_at ts pushed base) steps) where
+    (push : pushed ≡ added ++ a ∷ []) (is : base ≡ length pushed) (counts : good ≡ good_steps (hyps_at ts hyps pushed base) (earlier_at ts pushed base) steps) where
   abbrev under : List Formula
   under = facts_at ts hyps added ++ formula_of ts a ∷ []
 

@@ -27,7 +27,7 @@ returns-clause-checked c =
     let hyps = map (formula_of ts) c.args.hyps.now in
     let g = formula_of ts c.args.goal.now in
     elim c.else-good-len.branch [
-      else-good-len-via-then-good-len+else-ends_with w ↦ answer_ends hyps g c.args.steps.now c.in_ok-good.good counts (w.if-good-len.true ∙ c.len.ensures)
-      (sym w.if-ends_with.false ∙ w.ends_with.ensures ∙ (λ j. passes (last_formula (w.as_slice-then-good-len.ensures j)) (λ f. same_formula f (c.good_steps.ensures.kept.formula c.args.goal.now c.requires.goal j)))) |
-      else-good-len-via-else-good-len w ↦ answer_bad hyps g c.args.steps.now c.in_ok-good.good counts (λ e. w.if-good-len.false (e ∙ sym c.len.ensures))
+      | else-good-len-via-then-good-len+else-ends_with w ↦ answer_ends hyps g c.args.steps.now c.in_ok-good.good counts (w.if-good-len.true ∙ c.len.ensures)
+          (sym w.if-ends_with.false ∙ w.ends_with.ensures ∙ (λ j. passes (last_formula (w.as_slice-then-good-len.ensures j)) (λ f. same_formula f (c.good_steps.ensures.kept.formula c.args.goal.now c.requires.goal j))))
+      | else-good-len-via-else-good-len w ↦ answer_bad hyps g c.args.steps.now c.in_ok-good.good counts (λ e. w.if-good-len.false (e ∙ sym c.len.ensures))
     ]
