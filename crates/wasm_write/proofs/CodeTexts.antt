@@ -1,7 +1,7 @@
 -- The texts of instructions, expressions and bodies spell them.
-use Rattle.std.proofs.Common.{◌≡◌, ℕ, zero, suc, ◌+◌, ◌<◌, ◌≤◌, Bool, true, false, cond, List, [], ◌∷◌, ◌++◌, length, Option, Some, None, refl, sym, ap, subst, ◌∙◌, append_assoc, arith, lit≤}
+use Rattle.std.proofs.Common.{◌≡◌, ℕ, zero, suc, ◌+◌, ◌≤◌, true, false, cond, List, [], ◌∷◌, ◌++◌, length, refl, sym, ap, ◌∙◌, arith}
 use Rattle.std.specs.List.{AllByRecursion, flat_map}
-use Rattle.std.proofs.lemmas.List.{append-nil, length-append}
+use Rattle.std.proofs.lemmas.List.{length-append}
 use Rattle.wasm_values.specs.declared.number.ValType.{ValType}
 use Rattle.wasm_values.specs.declared.number.ValType.TheVariants.{I32, I64}
 use Rattle.wasm_values.specs.declared.number.Val.TheVariants as val
@@ -18,7 +18,7 @@ use Rattle.wasm_syntax.specs.FlatForm.{is_simple, flat, flat_body}
 use Rattle.wasm_syntax.specs.Parts.{Part, own, then_item}
 use Rattle.binary_grammar.specs.declared.section.Body.{Body}
 use Rattle.binary_grammar.specs.Bounds.{copies}
-use Rattle.binary_grammar.specs.Grammar.{Spelling, Then, Done, Each, SpellsNumber, SpellsList, SpellsValueType}
+use Rattle.binary_grammar.specs.Grammar.{Spelling, Then, Done, SpellsNumber}
 use Rattle.binary_grammar.specs.CodeGrammar.{InstrOf, ItemOf, SpellsItem, SpellsExpression, SpellsInstrs, SpellsRun, locals_of, Runs, SpellsLocals, OfLength, Sized, SpellsBodyContents, SpellsBody}
 use Rattle.binary_grammar.proofs.Follow.{Follow, follow-flat}
 use Rattle.wasm_write.specs.Shortest.{number_text, signed_text}

@@ -1,12 +1,9 @@
 -- The texts of numbers spell them.
-use Rattle.std.proofs.Common.{◌≡◌, ℕ, zero, suc, ◌+◌, ◌-◌, ◌*◌, ◌/◌, ◌%◌, ◌^◌, ◌<◌, ◌≤◌, Bool, true, false, cond, ltb, List, [], ◌∷◌, ◌++◌, length, refl, sym, ap, subst, ◌∙◌, arith, lit<, lit≤, ℤ, pos, negsuc}
-use Rattle.std.specs.Prelude.{FitsSigned}
-use Rattle.std.specs.Int.{w32, w64, cast_unsigned}
+use Rattle.std.proofs.Common.{◌≡◌, ℕ, zero, suc, ◌+◌, ◌-◌, ◌*◌, ◌/◌, ◌%◌, ◌^◌, ◌<◌, ◌≤◌, Bool, true, false, cond, ltb, List, [], ◌∷◌, length, refl, sym, ap, ◌∙◌, arith, lit≤, ℤ, pos, negsuc}
 use Rattle.std.proofs.lemmas.Bool.{ltb-true, ltb-false, lt-ltb, le-ltb}
 use Rattle.std.proofs.lemmas.Nat.{pow-add}
 use Rattle.std.proofs.Math.Nat.{pow-succ'}
-use Rattle.binary_grammar.specs.Numbers.{AreDigits, base_128, twos_complement, SpellsU32, SpellsSigned}
-use Rattle.binary_grammar.specs.Grammar.{SpellsNumber}
+use Rattle.binary_grammar.specs.Numbers.{AreDigits, base_128, twos_complement, SpellsU32}
 use Rattle.binary_grammar.specs.CodeGrammar.{SpellsWord32, SpellsWord64}
 use Rattle.wasm_write.specs.Shortest.{low_digit, digits, number_text, signed_text}
 
