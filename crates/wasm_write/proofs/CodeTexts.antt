@@ -140,7 +140,7 @@ whole_locals : (ls : List ValType) → locals_of (runs_of ls) ≡ ls
 whole_locals [] = refl
 whole_locals (t ∷ ts) = joins 1 t (runs_of ts) ∙ ap (λ us. t ∷ us) (whole_locals ts)
 
-few_joined : (n : ℕ) (t : ValType) (rs : List (ℕ × ValType)) → length (joined_to n t rs) ≤ suc (length rs)
+pub few_joined : (n : ℕ) (t : ValType) (rs : List (ℕ × ValType)) → length (joined_to n t rs) ≤ suc (length rs)
 few_joined n t [] = omega arith
 few_joined n t (r ∷ rs) =
     elim (is_same_type t r.1) as (λ b. length (cond b ((n + r.0, t) ∷ rs) ((n, t) ∷ r ∷ rs)) ≤ suc (suc (length rs))) [
