@@ -1,10 +1,9 @@
 -- Sections that a text spells one after another, and what a draft is behind them.
-use Rattle.std.proofs.Common.{◌≡◌, ℕ, zero, suc, ◌+◌, ◌<◌, ◌≤◌, Bool, true, false, cond, eqb, leb, List, [], ◌∷◌, ◌++◌, length, filter, inl, inr, refl, sym, ap, subst, ◌∙◌, append_assoc, arith}
+use Rattle.std.proofs.Common.{◌≡◌, ℕ, suc, ◌+◌, ◌<◌, ◌≤◌, true, false, cond, eqb, leb, List, [], ◌∷◌, ◌++◌, length, filter, inl, inr, refl, sym, ap, subst, ◌∙◌, append_assoc, arith}
 use Rattle.std.specs.List.{AllByRecursion, flat_map}
 use Rattle.std.proofs.lemmas.Bool.{eqb-true, eqb-false, ne_eqb, leb-true, leb-false, le-leb, lt-leb}
 use Rattle.std.proofs.lemmas.List.{append-nil, length-append}
 use Rattle.wasm_syntax.specs.declared.module.Custom.{Custom}
-use Rattle.wasm_syntax.specs.declared.module.Module.{Module}
 use Rattle.binary_grammar.specs.declared.section.Section.{Section}
 use Rattle.binary_grammar.specs.declared.section.Section.TheVariants as section
 use Rattle.binary_grammar.specs.declared.section.Draft.{Draft}
@@ -12,7 +11,7 @@ use Rattle.binary_grammar.specs.Grammar.{Spelling, SpellsVector}
 use Rattle.binary_grammar.specs.SectionReading.{with_section}
 use Rattle.binary_grammar.specs.ModuleGrammar.{id_of, SpellsContents, SpellsSection, InTurn, InOrder, Counts, MayStand, with_sections}
 use Rattle.wasm_write.specs.Shortest.{number_text}
-use Rattle.wasm_write.specs.Encoding.{vector_text, sized_text, section_text, entries_text, custom_contents, custom_text, customs_after, customs_text}
+use Rattle.wasm_write.specs.Encoding.{vector_text, sized_text, section_text, entries_text, custom_contents, custom_text, customs_after}
 use Rattle.wasm_write.specs.Writable.{IsCounted, CustomWritable, NeverFalls}
 use Rattle.wasm_write.proofs.TypeTexts.{tagged, Spelled, vector, name}
 use Rattle.wasm_write.proofs.CodeTexts.{sized}

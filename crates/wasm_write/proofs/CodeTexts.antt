@@ -1,7 +1,7 @@
 -- The texts of instructions, expressions and bodies spell them.
-use Rattle.std.proofs.Common.{◌≡◌, ℕ, zero, suc, ◌+◌, ◌<◌, ◌≤◌, Bool, true, false, cond, List, [], ◌∷◌, ◌++◌, length, Option, Some, None, refl, sym, ap, subst, ◌∙◌, append_assoc, arith, lit≤}
+use Rattle.std.proofs.Common.{◌≡◌, ℕ, zero, suc, ◌+◌, ◌≤◌, true, false, cond, List, [], ◌∷◌, ◌++◌, length, refl, sym, ap, ◌∙◌, arith}
 use Rattle.std.specs.List.{AllByRecursion, flat_map}
-use Rattle.std.proofs.lemmas.List.{append-nil, length-append}
+use Rattle.std.proofs.lemmas.List.{length-append}
 use Rattle.wasm_values.specs.declared.number.ValType.{ValType}
 use Rattle.wasm_values.specs.declared.number.ValType.TheVariants.{I32, I64}
 use Rattle.wasm_values.specs.declared.number.Val.TheVariants as val
@@ -18,7 +18,7 @@ use Rattle.wasm_syntax.specs.FlatForm.{is_simple, flat, flat_body}
 use Rattle.wasm_syntax.specs.Parts.{Part, own, then_item}
 use Rattle.binary_grammar.specs.declared.section.Body.{Body}
 use Rattle.binary_grammar.specs.Bounds.{copies}
-use Rattle.binary_grammar.specs.Grammar.{Spelling, Then, Done, Each, SpellsNumber, SpellsList, SpellsValueType}
+use Rattle.binary_grammar.specs.Grammar.{Spelling, Then, Done, SpellsNumber}
 use Rattle.binary_grammar.specs.CodeGrammar.{InstrOf, ItemOf, SpellsItem, SpellsExpression, SpellsInstrs, SpellsRun, locals_of, Runs, SpellsLocals, OfLength, Sized, SpellsBodyContents, SpellsBody}
 use Rattle.binary_grammar.proofs.Follow.{Follow, follow-flat}
 use Rattle.wasm_write.specs.Shortest.{number_text, signed_text}
@@ -140,7 +140,7 @@ whole_locals : (ls : List ValType) → locals_of (runs_of ls) ≡ ls
 whole_locals [] = refl
 whole_locals (t ∷ ts) = joins 1 t (runs_of ts) ∙ ap (λ us. t ∷ us) (whole_locals ts)
 
-few_joined : (n : ℕ) (t : ValType) (rs : List (ℕ × ValType)) → length (joined_to n t rs) ≤ suc (length rs)
+pub few_joined : (n : ℕ) (t : ValType) (rs : List (ℕ × ValType)) → length (joined_to n t rs) ≤ suc (length rs)
 few_joined n t [] = omega arith
 few_joined n t (r ∷ rs) =
     elim (is_same_type t r.1) as (λ b. length (cond b ((n + r.0, t) ∷ rs) ((n, t) ∷ r ∷ rs)) ≤ suc (suc (length rs))) [

@@ -5,3 +5,4 @@ mod CodeTexts
 mod SectionTexts
 mod Builds
 mod ModuleTexts
+mod ShortestLaws

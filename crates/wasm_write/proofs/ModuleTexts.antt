@@ -1,9 +1,9 @@
 -- The text of a module spells it.
-use Rattle.std.proofs.Common.{◌≡◌, ℕ, zero, suc, ◌+◌, ◌<◌, ◌≤◌, Bool, true, false, cond, eqb, leb, List, [], ◌∷◌, ◌++◌, length, map, Option, Some, None, Result, Ok, Err, inl, inr, refl, sym, ap, subst, ◌∙◌, append_assoc, arith}
-use Rattle.std.specs.Prelude.{MatchResult, IfOk}
+use Rattle.std.proofs.Common.{◌≡◌, ℕ, suc, ◌+◌, ◌<◌, ◌≤◌, true, false, leb, List, [], ◌∷◌, ◌++◌, length, map, Option, Some, None, Result, Ok, Err, inl, inr, refl, sym, ap, subst, ◌∙◌, append_assoc, arith}
+use Rattle.std.specs.Prelude.{MatchResult}
 use Rattle.std.specs.List.{AllByRecursion, flat_map}
 use Rattle.std.proofs.lemmas.Bool.{ne_eqb, leb-true, leb-false}
-use Rattle.std.proofs.lemmas.List.{append-nil, length-append, length-map}
+use Rattle.std.proofs.lemmas.List.{append-nil, length-map}
 use Rattle.wasm_values.specs.declared.number.ValType.{ValType}
 use Rattle.wasm_syntax.specs.declared.instr.Instr.{Instr}
 use Rattle.wasm_syntax.specs.declared.module.Func.{Func}
@@ -19,7 +19,7 @@ use Rattle.binary_grammar.specs.declared.section.Decoded.{Decoded}
 use Rattle.binary_grammar.specs.Bounds.{the_bounds}
 use Rattle.binary_grammar.specs.Grammar.{Each, Many, SpellsNumber, SpellsVector, SpellsFuncType, SpellsImport, SpellsTableType, SpellsLimits, SpellsExport}
 use Rattle.binary_grammar.specs.CodeGrammar.{SpellsBody}
-use Rattle.binary_grammar.specs.SectionReading.{after_of, with_section, no_module, no_sections, funcs_of, places_of, whole_module, header, module_at}
+use Rattle.binary_grammar.specs.SectionReading.{after_of, no_module, no_sections, funcs_of, whole_module, header, module_at}
 use Rattle.binary_grammar.specs.ModuleGrammar.{SpellsGlobal, SpellsElem, SpellsSegment, SpellsContents, with_sections, FuncWithin, Spells}
 use Rattle.binary_grammar.specs.Reading.{Gives}
 use Rattle.binary_grammar.proofs.Exact.{ok}
@@ -31,7 +31,7 @@ use Rattle.wasm_write.proofs.TypeTexts.{then, number, func_type, import_, table_
 use Rattle.wasm_write.proofs.NumberTexts.{short_number}
 use Rattle.wasm_write.proofs.CodeTexts.{body_of}
 use Rattle.wasm_write.proofs.SectionTexts.{global_, elem_, segment_}
-use Rattle.wasm_write.proofs.Builds.{Builds, nothing, one_section, both, section_, Form, Fits, entries, with_customs, customs, named_from, split_customs, all_named, none_past, after_all, some_after, first_named}
+use Rattle.wasm_write.proofs.Builds.{Builds, nothing, one_section, both, section_, entries, with_customs, customs, named_from, split_customs, all_named, none_past, after_all, some_after, first_named}
 
 -- ---- what a draft is behind the sections up to an id
 

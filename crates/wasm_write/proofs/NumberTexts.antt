@@ -1,12 +1,9 @@
 -- The texts of numbers spell them.
-use Rattle.std.proofs.Common.{◌≡◌, ℕ, zero, suc, ◌+◌, ◌-◌, ◌*◌, ◌/◌, ◌%◌, ◌^◌, ◌<◌, ◌≤◌, Bool, true, false, cond, ltb, List, [], ◌∷◌, ◌++◌, length, refl, sym, ap, subst, ◌∙◌, arith, lit<, lit≤, ℤ, pos, negsuc}
-use Rattle.std.specs.Prelude.{FitsSigned}
-use Rattle.std.specs.Int.{w32, w64, cast_unsigned}
+use Rattle.std.proofs.Common.{◌≡◌, ℕ, zero, suc, ◌+◌, ◌-◌, ◌*◌, ◌/◌, ◌%◌, ◌^◌, ◌<◌, ◌≤◌, Bool, true, false, cond, ltb, List, [], ◌∷◌, length, refl, sym, ap, ◌∙◌, arith, lit≤, ℤ, pos, negsuc}
 use Rattle.std.proofs.lemmas.Bool.{ltb-true, ltb-false, lt-ltb, le-ltb}
 use Rattle.std.proofs.lemmas.Nat.{pow-add}
 use Rattle.std.proofs.Math.Nat.{pow-succ'}
-use Rattle.binary_grammar.specs.Numbers.{AreDigits, base_128, twos_complement, SpellsU32, SpellsSigned}
-use Rattle.binary_grammar.specs.Grammar.{SpellsNumber}
+use Rattle.binary_grammar.specs.Numbers.{AreDigits, base_128, twos_complement, SpellsU32}
 use Rattle.binary_grammar.specs.CodeGrammar.{SpellsWord32, SpellsWord64}
 use Rattle.wasm_write.specs.Shortest.{low_digit, digits, number_text, signed_text}
 
@@ -19,12 +16,12 @@ small-digit false n = omega arith
 small-digit true n = omega arith
 
 -- what holds of digits, where the number is small enough for as many
-record Digits (negative : Bool) (bound n : ℕ) (text : List ℕ) : Type 0 where
-  are : AreDigits text
-  more : ℕ
-  len : length text ≡ suc more
-  small : n < bound * 128 ^ more
-  least : (j : ℕ) → n < bound * 128 ^ j → more ≤ j
+pub record Digits (negative : Bool) (bound n : ℕ) (text : List ℕ) : Type 0 where
+  pub are : AreDigits text
+  pub more : ℕ
+  pub len : length text ≡ suc more
+  pub small : n < bound * 128 ^ more
+  pub least : (j : ℕ) → n < bound * 128 ^ j → more ≤ j
 
 one-digit : (negative : Bool) (bound n : ℕ) → n < bound → Digits negative bound n (low_digit negative n ∷ [])
 one-digit negative bound n lt = record {
@@ -59,7 +56,7 @@ more-digits negative bound n text le d =
         let k : more ≤ j = least j (omega arith) in
         omega arith
 
-digits-are : (negative : Bool) (bound more n : ℕ) → n < bound * 128 ^ more → Digits negative bound n (digits negative bound more n)
+pub digits-are : (negative : Bool) (bound more n : ℕ) → n < bound * 128 ^ more → Digits negative bound n (digits negative bound more n)
 unfolding digits
 digits-are negative bound zero n lt = one-digit negative bound n (omega arith)
 digits-are negative bound (suc more) n lt =
@@ -109,13 +106,13 @@ spells_number n lt =
 
 -- ---- signed numbers
 
-seven : (l : ℕ) → 2 ^ (7 * l) ≡ 128 ^ l
+pub seven : (l : ℕ) → 2 ^ (7 * l) ≡ 128 ^ l
 seven zero = refl
 seven (suc l) =
     let e : 7 * suc l ≡ 7 + 7 * l = omega arith in
     ap (λ k. 2 ^ k) e ∙ pow-add 2 7 (7 * l) ∙ ap (λ p. 128 * p) (seven l) ∙ sym (pow-succ' 128 l)
 
-half : (l : ℕ) → 2 ^ (7 * suc l - 1) ≡ 64 * 128 ^ l
+pub half : (l : ℕ) → 2 ^ (7 * suc l - 1) ≡ 64 * 128 ^ l
 half l =
     let e : 7 * suc l - 1 ≡ 6 + 7 * l = omega arith in
     ap (λ k. 2 ^ k) e ∙ pow-add 2 6 (7 * l) ∙ ap (λ p. 64 * p) (seven l)

@@ -1,8 +1,5 @@
 -- The texts of globals and segments spell them.
-use Rattle.std.proofs.Common.{ℕ, ◌+◌, List, ◌++◌, length}
-use Rattle.wasm_syntax.specs.declared.module.Global.{Global}
-use Rattle.wasm_syntax.specs.declared.module.Elem.{Elem}
-use Rattle.wasm_syntax.specs.declared.module.Segment.{Segment}
+use Rattle.std.proofs.Common.{◌+◌, ◌++◌, length}
 use Rattle.binary_grammar.specs.Grammar.{SpellsNumber}
 use Rattle.binary_grammar.specs.ModuleGrammar.{SpellsGlobal, SpellsElem, SpellsSegment}
 use Rattle.wasm_write.specs.Shortest.{number_text}

@@ -1,22 +1,18 @@
 -- The texts of types, imports and exports spell them.
-use Rattle.std.proofs.Common.{◌≡◌, ℕ, zero, suc, ◌+◌, ◌<◌, ◌^◌, Bool, true, false, List, [], ◌∷◌, ◌++◌, length, Option, Some, None, refl, sym, ap, subst, ◌∙◌}
+use Rattle.std.proofs.Common.{ℕ, ◌+◌, Bool, true, false, List, [], ◌∷◌, ◌++◌, length, Option, Some, None, refl, sym, subst}
 use Rattle.std.specs.List.{AllByRecursion, flat_map}
-use Rattle.std.specs.Str.{IsUtf8}
 use Rattle.std.proofs.lemmas.List.{append-nil}
 use Rattle.wasm_values.specs.declared.number.ValType.{ValType}
 use Rattle.wasm_values.specs.declared.number.ValType.TheVariants.{I32, I64}
-use Rattle.wasm_syntax.specs.declared.module.FuncType.{FuncType}
 use Rattle.wasm_syntax.specs.declared.module.Limits.{Limits}
 use Rattle.wasm_syntax.specs.declared.module.GlobalType.{GlobalType}
-use Rattle.wasm_syntax.specs.declared.module.Import.{Import}
 use Rattle.wasm_syntax.specs.declared.module.ImportKind.{ImportKind}
 use Rattle.wasm_syntax.specs.declared.module.ImportKind.TheVariants as import
-use Rattle.wasm_syntax.specs.declared.module.Export.{Export}
 use Rattle.wasm_syntax.specs.declared.module.ExportKind.{ExportKind}
 use Rattle.wasm_syntax.specs.declared.module.ExportKind.TheVariants as export
-use Rattle.binary_grammar.specs.Grammar.{Spelling, Then, Done, TheByte, Tagged, SpellsNumber, Each, Many, SpellsVector, SpellsList, Bytes, SpellsBytes, Utf8, SpellsName, SpellsValueType, SpellsBlockType, SpellsFuncType, SpellsFlag, SpellsGreatest, SpellsLimits, SpellsTableType, SpellsGlobalType, SpellsImported, SpellsImportKind, SpellsImport, SpellsExportKind, SpellsExport, export_index}
+use Rattle.binary_grammar.specs.Grammar.{Spelling, Then, Done, TheByte, Tagged, SpellsNumber, Each, Many, SpellsVector, SpellsList, Bytes, SpellsBytes, Utf8, SpellsName, SpellsValueType, SpellsBlockType, SpellsFuncType, SpellsFlag, SpellsGreatest, SpellsLimits, SpellsTableType, SpellsGlobalType, SpellsImportKind, SpellsImport, SpellsExportKind, SpellsExport, export_index}
 use Rattle.wasm_write.specs.Shortest.{number_text}
-use Rattle.wasm_write.specs.Encoding.{vector_text, sized_text, value_type_code, value_type_text, block_type_code, func_type_text, between_text, limits_text, table_type_text, mutability_code, global_type_text, import_kind_text, import_text, export_kind_text, export_text}
+use Rattle.wasm_write.specs.Encoding.{vector_text, sized_text, value_type_text, block_type_code, func_type_text, between_text, limits_text, table_type_text, mutability_code, global_type_text, import_kind_text, import_text, export_kind_text, export_text}
 use Rattle.wasm_write.specs.Writable.{IsU32, IsCounted, IsName, IsMaximum, AreLimits, TypeWritable, ImportKindWritable, ImportWritable, ExportWritable}
 use Rattle.wasm_write.proofs.NumberTexts.{spells_number}
 

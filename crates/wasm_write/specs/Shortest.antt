@@ -1,5 +1,5 @@
 -- The shortest spellings of numbers (Core Specification, 5.2.2, LEB128).
-use Rattle.std.specs.Prelude.{ℕ, zero, suc, ◌+◌, ◌-◌, ◌*◌, ◌/◌, ◌%◌, ◌^◌, nat_lt, if◌then◌else◌, Bool, true, false, List, [], ◌∷◌}
+use Rattle.std.specs.Prelude.{ℕ, zero, suc, ◌+◌, ◌-◌, ◌/◌, ◌%◌, ◌^◌, nat_lt, if◌then◌else◌, Bool, true, false, List, [], ◌∷◌}
 
 -- The lowest digit of a number to the base 128, or its complement.
 abbrev pub low_digit : Bool → ℕ → ℕ

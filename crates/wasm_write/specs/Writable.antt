@@ -23,7 +23,6 @@ use Rattle.wasm_syntax.specs.FlatForm.{flat}
 use Rattle.binary_grammar.specs.Grammar.{export_index}
 use Rattle.binary_grammar.specs.Bounds.{the_bounds}
 use Rattle.binary_grammar.specs.ModuleGrammar.{InLimits}
-use Rattle.wasm_write.specs.Shortest.{number_text}
 use Rattle.wasm_write.specs.Encoding.{vector_text, func_type_text, import_text, type_text, table_type_text, limits_text, global_text, export_text, elem_text, func_text, body_text, segment_text, custom_contents}
 
 -- A number is a u32, as each count, length and size has to be.

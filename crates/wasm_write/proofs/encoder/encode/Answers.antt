@@ -1,5 +1,4 @@
-use Rattle.std.proofs.Common.{◌≡◌, ℕ, List, Ok, sym, ap, subst, ◌∙◌}
-use Rattle.wasm_syntax.specs.declared.module.Marks.{Marks}
+use Rattle.std.proofs.Common.{ℕ, List, sym, ap, subst, ◌∙◌}
 use Rattle.binary_grammar.specs.Bounds.{the_bounds}
 use Rattle.binary_grammar.specs.ModuleGrammar.{Spells}
 use Rattle.binary_grammar.specs.SectionReading.{module_at}
