@@ -1,4 +1,5 @@
 pub mod FactLemmas
 pub mod FormLemmas
 pub mod GoalLemmas
+pub mod MachineLaws
 pub mod RuleLaws

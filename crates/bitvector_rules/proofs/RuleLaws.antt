@@ -1,8 +1,8 @@
 -- Each rule keeps truth, in the order of the rules.
-use Rattle.std.proofs.Common.{◌≡◌, ℕ, zero, suc, Bool, true, false, not, ◌&&◌, ◌||◌, if◌then◌else◌, IsTrue, List, [], ◌∷◌, slice_get, Option, Some, None, refl, sym, subst, ◌∙◌, true≢false}
+use Rattle.std.proofs.Common.{◌≡◌, ℕ, zero, suc, Bool, true, false, not, ◌&&◌, ◌||◌, if◌then◌else◌, IsTrue, List, [], ◌∷◌, slice_get, Option, Some, None, refl, sym, subst, ◌∙◌, true≢false, arith}
 use Rattle.std.specs.Option.{option_map, option_and_then}
 use Rattle.std.proofs.lemmas.Option.{same_Some}
-use Rattle.std.proofs.lemmas.List.Elements.{All-head, All-tail}
+use Rattle.std.proofs.lemmas.List.Elements.{All-head, All-tail, All-cons}
 use Rattle.term_logic.specs.declared.term.Formula.{Formula}
 use Rattle.term_logic.specs.declared.term.Formula.TheVariants as formula
 use Rattle.term_logic.specs.Ground.{both}
@@ -11,13 +11,19 @@ use Rattle.term_logic.specs.Same.{passes, same_formula}
 use Rattle.term_logic.specs.Views.{is_false, not_of, and_of, or_of, imp_of}
 use Rattle.term_logic.proofs.Truths.{and_true}
 use Rattle.term_logic.proofs.Truths.{both as both_true}
+use Rattle.equality_rules.proofs.EqualityLaws.{sound_refl, sound_eval, sound_floor, sound_ceil, sound_order, sound_notle, sound_notlt, sound_mulpos}
+use Rattle.equality_rules.proofs.LinearLaws.{sound_linear}
+use Rattle.equality_rules.proofs.RewriteLaws.{sound_rewrite}
 use Rattle.bitvector_rules.specs.declared.step.Rule.{Rule}
-use Rattle.bitvector_rules.specs.declared.step.Rule.TheVariants.{Hyp, True, And, Left, Right, Orl, Orr, Cases, Assume, Apply, Contra, Refute, Clash, Explode}
+use Rattle.bitvector_rules.specs.declared.step.Rule.TheVariants.{Hyp, True, And, Left, Right, Orl, Orr, Cases, Assume, Apply, Contra, Refute, Clash, Explode, Refl, Rewrite, Eval, Floor, Ceil, Order, Notle, Notlt, Mulpos}
 use Rattle.bitvector_rules.specs.declared.step.Ref.{Ref}
 use Rattle.bitvector_rules.specs.declared.step.Ref.TheVariants as ref
 use Rattle.bitvector_rules.specs.declared.step.Step.{Step, out-Step}
-use Rattle.bitvector_rules.specs.Facts.{is_empty, fact_at, one_premise, two_premises}
-use Rattle.bitvector_rules.specs.Goals.{Goals, when, rule_goals}
+use Rattle.bitvector_rules.specs.Facts.{is_empty, fact_at, one_premise, two_premises, premises}
+use Rattle.bitvector_rules.specs.Goals.{Goals, when, fits_equality, further_goals, rule_goals, takes_numbers, fits_linear}
+use Rattle.integer_rules.specs.declared.rule.IntegerRule.{IntegerRule}
+use Rattle.bitvector_rules.specs.Machine.{machine_rule}
+use Rattle.bitvector_rules.proofs.MachineLaws.{sound_machine}
 use Rattle.bitvector_rules.specs.Truth.{Holds, AllHold, AllMet, StepIsSound}
 use Rattle.bitvector_rules.proofs.FormLemmas.{passed, holds-true, holds-false, holds-not, holds-and, holds-or, holds-imp, false_fails, denied_holds, same_holds, same_held}
 
@@ -89,6 +95,16 @@ module _ (n : Numbers) where
     two_hold (r ∷ (s ∷ [])) q e = both_hold (fact_at hyps earlier r) (fact_at hyps earlier s) q e (fact_holds r) (fact_holds s)
     two_hold (r ∷ (s ∷ (t ∷ rs))) q e = cc
 
+    all_hold : (refs : List Ref) (fs : List Formula) → premises hyps earlier refs ≡ Some fs → AllHold n fs
+    all_hold [] fs e = subst (AllHold n) (same_Some [] fs e) (λ k d low. absurd (omega arith))
+    all_hold (r ∷ rs) fs e = by (fact_at hyps earlier r) (premises hyps earlier rs) refl refl e (all_hold rs)
+      where
+        by : (o : Option Formula) (p : Option (List Formula)) → fact_at hyps earlier r ≡ o → premises hyps earlier rs ≡ p → option_and_then (λ f. option_map (λ fs. f ∷ fs) p) o ≡ Some fs
+            → ((fs : List Formula) → premises hyps earlier rs ≡ Some fs → AllHold n fs) → AllHold n fs
+        by None p is more e rest = cc
+        by (Some f) None is more e rest = cc
+        by (Some f) (Some gs) is more e rest = subst (AllHold n) (same_Some (f ∷ gs) fs e) (All-cons (Holds n) f gs (fact_holds r f is) (rest gs more))
+
     -- ---- the logical rules
 
     module _ (refs : List Ref) (c : Formula) where
@@ -158,6 +174,22 @@ module _ (n : Numbers) where
       sound_refute gs None is e all = cc
       sound_refute gs (Some f) is e all = holds-not n c f is ∙ denies (holds n f) (λ h. false_fails n (met gs (f, formula.False) e all h))
 
+      sound_equality : (rule : Rule) → IsTrue (fits_equality hyps earlier refs c rule) → Holds n c
+      sound_equality Refl h = sound_refl n c (both_true _ _ h).1
+      sound_equality Rewrite h = by_two _ h (λ p first second test. sound_rewrite n p.0 p.1 c first second test)
+      sound_equality Eval h = sound_eval n c (both_true _ _ h).1
+      sound_equality Floor h = by_one _ h (λ p holds test. sound_floor n p c holds test)
+      sound_equality Ceil h = by_one _ h (λ p holds test. sound_ceil n p c holds test)
+      sound_equality Order h = sound_order n c (both_true _ _ h).1
+      sound_equality Notle h = by_one _ h (λ p holds test. sound_notle n p c holds test)
+      sound_equality Notlt h = by_one _ h (λ p holds test. sound_notlt n p c holds test)
+      sound_equality Mulpos h = by_two _ h (λ p first second test. sound_mulpos n p.0 p.1 c first second test)
+      sound_equality _ h = absurd (true≢false (sym h))
+
+      sound_further : (rule : Rule) (o : Option IntegerRule) (gs : List (Formula × Formula)) → further_goals hyps earlier refs c rule o ≡ Some gs → Holds n c
+      sound_further rule (Some r) gs e = sound_machine n hyps earlier fact_holds refs c r (tested _ gs e)
+      sound_further rule None gs e = sound_equality rule (tested _ gs e)
+
       sound_rule : (rule : Rule) (gs : List (Formula × Formula)) → rule_goals hyps earlier refs c rule ≡ Some gs → AllMet n gs → Holds n c
       sound_rule Hyp gs e all = sound_hyp (tested _ gs e)
       sound_rule True gs e all = holds-true n c (both_true _ _ (tested _ gs e)).1
@@ -173,7 +205,17 @@ module _ (n : Numbers) where
       sound_rule Refute gs e all = sound_refute gs (not_of c) refl (if_some (is_empty refs) _ gs e) all
       sound_rule Clash gs e all = sound_clash (both_true _ _ (tested _ gs e)).0
       sound_rule Explode gs e all = sound_explode (tested _ gs e)
+      sound_rule rule gs e all = sound_further rule (machine_rule rule) gs e
+
+-- a step by `linear`, and any other
+by_numbers : (a b : Bool) (g h : Goals) (gs : List (Formula × Formula)) (Q : Type 0) → (if a then g else if b then h else None) ≡ Some gs → (g ≡ Some gs → Q) → (h ≡ Some gs → Q) → Q
+by_numbers true b g h gs Q e first second = first e
+by_numbers false true g h gs Q e first second = second e
+by_numbers false false g h gs Q e first second = cc
 
 pub sound_step : (s : Step) → StepIsSound s
 sound_step s n hyps earlier goals is hs es met =
-    sound_rule n hyps earlier hs es (out-Step s).refs (out-Step s).formula (out-Step s).rule goals (if_some (is_empty (out-Step s).numbers) _ goals is) met
+    let l = out-Step s in
+    by_numbers (takes_numbers l.rule) (is_empty l.numbers) (when (fits_linear hyps earlier l.refs l.numbers l.formula)) (rule_goals hyps earlier l.refs l.formula l.rule) goals (Holds n l.formula) is
+    (λ e. passed (premises hyps earlier l.refs) _ (Holds n l.formula) (tested _ goals e) (λ fs found test. sound_linear n fs l.numbers l.formula (all_hold n hyps earlier hs es l.refs fs found) test))
+    (λ e. sound_rule n hyps earlier hs es l.refs l.formula l.rule goals e met)

@@ -1,6 +1,6 @@
 -- The facts that a step of a derivation may refer to.
 use Rattle.std.specs.Prelude.{ℕ, ◌≤◌, Bool, true, false, List, [], ◌∷◌, ◌++◌, map, take, drop, length, slice_get, Option, Some, None}
-use Rattle.std.specs.Option.{option_and_then}
+use Rattle.std.specs.Option.{option_map, option_and_then}
 use Rattle.std.specs.List.{All}
 use Rattle.term_logic.specs.declared.term.Term.{Term}
 use Rattle.term_logic.specs.declared.term.Formula.{Formula}
@@ -42,6 +42,11 @@ one_premise hyps earlier refs = option_and_then (fact_at hyps earlier) (one_of r
 -- The premises of a rule that has two, in the order of the references.
 abbrev pub two_premises : List Formula → List Formula → List Ref → Option (Formula × Formula)
 two_premises hyps earlier refs = option_and_then (λ r. both (fact_at hyps earlier r.0) (fact_at hyps earlier r.1)) (two_of refs)
+
+-- The premises of a rule that has any number, in the order of the references: each of these names a fact.
+abbrev pub premises : List Formula → List Formula → List Ref → Option (List Formula)
+premises hyps earlier [] = Some []
+premises hyps earlier (r ∷ rs) = option_and_then (λ f. option_map (λ fs. f ∷ fs) (premises hyps earlier rs)) (fact_at hyps earlier r)
 
 -- ---- facts over a table
 

@@ -1,11 +1,14 @@
-ghost use Rattle.std.specs.Prelude.{◌≡◌, ◌≤◌, length, map, slice_get, IfSome};
+ghost use Rattle.std.specs.Prelude.{◌≡◌, ◌≤◌, length, map, slice_get, IfOk, IfSome};
+ghost use Rattle.std.specs.List.{All};
 ghost use Rattle.std.specs.Option.{option_map};
 ghost use Rattle.term_logic.specs.Formulas.{formula_bound, formula_of};
-ghost use Rattle.bitvector_rules.specs.Facts.{AllWithin, fact_at, one_premise, two_premises, hyps_of, earlier_of, FactsWithin};
+ghost use Rattle.bitvector_rules.specs.Facts.{AllWithin, fact_at, one_premise, two_premises, premises, hyps_of, earlier_of, FactsWithin};
 
 use crate::items::{one_of, two_of};
 use crate::step::Ref;
+use std::alloc::Global;
 use term_logic::{IdFormula, TermTable};
+use wasm_values::OutOfMemory;
 
 /// What a step may refer to: hypotheses, and the conclusions of the earlier steps of its list.
 #[derive(Drop)]
@@ -66,5 +69,28 @@ impl Facts<'_> {
         let f = self.at(table, *first)?;
         let g = self.at(table, *second)?;
         Some((f, g))
+    }
+
+    /// The premises of a rule that has any number.
+    pub(crate) fn all(
+        &self,
+        alloc: Global,
+        table: &TermTable,
+        refs: &[Ref],
+    ) -> Result<Option<Vec<&IdFormula>>, OutOfMemory>
+        requires { FactsWithin (length table.now) self.now }
+        ensures premises { IfOk result (λ o. option_map (λ v. map (λ f. formula_of table.now f.now) v.items) o ≡ premises (hyps_of table.now self.now) (earlier_of table.now self.now) refs.now) }
+        ensures within { IfOk result (λ o. IfSome o (λ v. All (λ f. formula_bound f.now ≤ length table.now) v.items)) }
+    {
+        let mut premises = Vec::new(alloc);
+        for place in refs {
+            let Some(f) = self.at(table, *place) else {
+                return Ok(None);
+            };
+            let Ok(()) = premises.push(f) else {
+                return Err(OutOfMemory);
+            };
+        }
+        Ok(Some(premises))
     }
 }

@@ -1,20 +1,23 @@
-ghost use Rattle.std.specs.Prelude.{◌≡◌, ◌≤◌, [], ◌∷◌, map, length, if◌then◌else◌, None, Some, IfOk, IfSome};
+ghost use Rattle.std.specs.Prelude.{◌≡◌, ◌≤◌, [], ◌∷◌, map, length, if◌then◌else◌, None, Some, IfOk, IfSome, IsTrue};
 ghost use Rattle.std.specs.Option.{option_map, option_and_then};
 ghost use Rattle.term_logic.specs.declared.term.Formula.TheVariants as formula;
-ghost use Rattle.term_logic.specs.Formulas.{formula_bound, formula_of};
+ghost use Rattle.term_logic.specs.Formulas.{formula_bound, formula_of, well_formed_formula};
 ghost use Rattle.term_logic.specs.Views.{not_of, or_of, imp_of};
 ghost use Rattle.bitvector_rules.specs.declared.step.Step.{out-Step};
 ghost use Rattle.bitvector_rules.specs.Facts.{is_empty, one_premise, hyps_of, earlier_of, FactsWithin};
-ghost use Rattle.bitvector_rules.specs.Goals.{when, rule_goals, step_goals, goal_of, GoalsWithin};
+ghost use Rattle.bitvector_rules.specs.Machine.{machine_rule};
+ghost use Rattle.bitvector_rules.specs.Goals.{when, further_goals, rule_goals, step_goals, goal_of, GoalsWithin};
 
+use crate::equality::{fits_equality, fits_linear, takes_numbers};
 use crate::facts::Facts;
 use crate::items::is_empty;
 use crate::logic::{
     is_and, is_apply, is_clash, is_explode, is_hyp, is_left, is_orl, is_orr, is_right,
 };
+use crate::machine::{fits_machine, machine_rule};
 use crate::step::{Ref, Rule, Step};
 use std::alloc::Global;
-use term_logic::{Boxed, IdFormula, TermTable};
+use term_logic::{Boxed, Formula, IdFormula, TermTable};
 use wasm_values::{List, OutOfMemory};
 
 /// What a sub-derivation has to show: the goal, under the assumption.
@@ -129,6 +132,35 @@ fn refute_goals(
     Ok(Some(one_goal(alloc, table, f, IdFormula::False)?))
 }
 
+/// The goals of a step by a rule of machine integers, where its rule is one, and else of equality and order.
+fn further_goals(
+    alloc: Global,
+    table: &TermTable,
+    facts: &Facts<'_>,
+    refs: &[Ref],
+    conclusion: &IdFormula,
+    tree: &Formula,
+    rule: Rule,
+) -> Result<Option<List<SubGoal>>, OutOfMemory>
+    requires facts { FactsWithin (length table.now) facts.now }
+    requires conclusion { formula_bound conclusion.now ≤ length table.now }
+    requires tree { formula_of table.now conclusion.now ≡ tree.now }
+    requires well_formed { IsTrue (well_formed_formula tree.now) }
+    ensures goals { IfOk result (λ r. option_map (map (goal_of table.now)) r ≡ further_goals (hyps_of table.now facts.now) (earlier_of table.now facts.now) refs.now (formula_of table.now conclusion.now) rule (machine_rule rule)) }
+    ensures within { IfOk result (λ r. IfSome r (λ gs. GoalsWithin (length table.now) gs)) }
+{
+    match machine_rule(rule) {
+        Some(machine) => {
+            let fits = fits_machine(alloc, table, facts, refs, conclusion, machine)?;
+            Ok(when(alloc, table, fits))
+        }
+        None => {
+            let fits = fits_equality(table, facts, refs, conclusion, tree, rule);
+            Ok(when(alloc, table, fits))
+        }
+    }
+}
+
 /// The goals of a step by its rule.
 fn rule_goals(
     alloc: Global,
@@ -136,10 +168,13 @@ fn rule_goals(
     facts: &Facts<'_>,
     refs: &[Ref],
     conclusion: &IdFormula,
+    tree: &Formula,
     rule: Rule,
 ) -> Result<Option<List<SubGoal>>, OutOfMemory>
     requires facts { FactsWithin (length table.now) facts.now }
     requires conclusion { formula_bound conclusion.now ≤ length table.now }
+    requires tree { formula_of table.now conclusion.now ≡ tree.now }
+    requires well_formed { IsTrue (well_formed_formula tree.now) }
     ensures goals { IfOk result (λ r. option_map (map (goal_of table.now)) r ≡ rule_goals (hyps_of table.now facts.now) (earlier_of table.now facts.now) refs.now (formula_of table.now conclusion.now) rule) }
     ensures within { IfOk result (λ r. IfSome r (λ gs. GoalsWithin (length table.now) gs)) }
 {
@@ -163,6 +198,7 @@ fn rule_goals(
             Ok(when(alloc, table, clashes))
         }
         Rule::Explode => Ok(when(alloc, table, is_explode(table, facts, refs))),
+        _ => further_goals(alloc, table, facts, refs, conclusion, tree, rule),
     }
 }
 
@@ -178,9 +214,16 @@ pub fn sub_goals(
     requires facts { FactsWithin (length table.now) facts.now }
     requires within { formula_bound conclusion.now ≤ length table.now }
     requires conclusion { formula_of table.now conclusion.now ≡ (out-Step step.now).formula }
+    requires well_formed { IsTrue (well_formed_formula (out-Step step.now).formula) }
     ensures goals { IfOk result (λ r. option_map (map (goal_of table.now)) r ≡ step_goals (hyps_of table.now facts.now) (earlier_of table.now facts.now) (out-Step step.now)) }
     ensures within { IfOk result (λ r. IfSome r (λ gs. GoalsWithin (length table.now) gs)) }
 {
+    let refs = step.refs.as_slice();
+    if takes_numbers(step.rule) {
+        let numbers = step.numbers.as_slice();
+        let fits = fits_linear(alloc, table, facts, refs, numbers, conclusion)?;
+        return Ok(when(alloc, table, fits));
+    }
     if !is_empty(step.numbers.as_slice()) {
         return Ok(None);
     }
@@ -188,8 +231,9 @@ pub fn sub_goals(
         alloc,
         table,
         facts,
-        step.refs.as_slice(),
+        refs,
         conclusion,
+        &step.formula,
         step.rule,
     )
 }

@@ -1,12 +1,14 @@
 //! The rules of derivations, and whether a step is an instance of its rule.
 #![tactic(auto)]
 
+mod equality;
 mod facts;
 mod goals;
 mod instance;
 mod items;
 pub mod laws;
 mod logic;
+mod machine;
 mod step;
 
 pub use facts::Facts;

@@ -1,11 +1,8 @@
 pub mod Loop
 pub mod PartLaws
-pub mod EntryLaws
-pub mod InstrLaws
-pub mod ModuleLaws
-pub mod TreeLaws
 pub mod NumeralLaws
 pub mod LexemeLaws
 pub mod ManyLaws
 pub mod NoteParts
 pub mod NoteLaws
+mod FirstLaws

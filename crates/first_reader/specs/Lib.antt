@@ -1,9 +1,6 @@
-pub mod FirstBytes
 pub mod Reading
-pub mod ReadingModule
-pub mod Trees
-pub mod First
 pub mod Lexemes
 pub mod ReadingLexemes
 pub mod FirstNotes
 pub mod ReadingNotes
+pub mod FirstTests

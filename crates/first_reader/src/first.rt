@@ -1,45 +1,133 @@
 // Modules of the form First.
 
-ghost use Rattle.std.specs.Prelude.{◌≡◌, Some, IfOk};
-ghost use Rattle.first_reader.specs.Reading.{Gives};
-ghost use Rattle.first_reader.specs.Trees.{first_module};
-ghost use Rattle.first_reader.specs.First.{IsFirstBytes};
-ghost use Rattle.outline_check.specs.First.{HasPlaces};
-ghost use Rattle.wasm_syntax.specs.declared.module.Module.{Module};
-ghost use Rattle.wasm_syntax.specs.declared.module.Marks.{Marks};
+ghost use Rattle.std.specs.Prelude.{◌≡◌, ◌↔◌, IsTrue};
+ghost use Rattle.std.specs.List.{list_all};
+ghost use Rattle.outline_check.specs.First.{IsFirst};
+ghost use Rattle.first_reader.specs.FirstTests.{is_empty_type, is_first_global, is_function, is_first_instr, is_first_item, is_first_func, are_vectors, lacks_other_parts, has_first_parts, is_first};
 
-use crate::error::ReadError;
-use crate::marks::first_marks;
-use crate::module::module;
-use crate::tree::is_first;
-use std::alloc::Global;
-use wasm_syntax::{Marks, Module};
+use wasm_syntax::{Code, Export, ExportKind, Flat, Func, FuncType, Global, Instr, Module, Plain};
+use wasm_validate::ValidModule;
+use wasm_values::{Val, ValType};
 
-#[tactic(auto, unfolding(crate::specs::Trees::first_module))]
-fn first(alloc: Global, bytes: &[u8]) -> Result<(Module, Marks), ReadError>
-    ensures { Gives (λ x. x) result (first_module bytes.now) }
+/// A vector has fewer entries.
+const MAX_ENTRIES: usize = 4_294_967_296;
+
+fn are_vectors(m: &Module) -> bool
+    ensures { result ≡ are_vectors m.now }
 {
-    let module = module(alloc, bytes)?;
-    if !is_first(alloc, &module)? {
-        return Err(ReadError::OtherForm);
-    }
-    let marks = first_marks(alloc, &module)?;
-    Ok((module, marks))
+    m.types.len() < MAX_ENTRIES
+        && m.funcs.len() < MAX_ENTRIES
+        && m.globals.len() < MAX_ENTRIES
+        && m.exports.len() < MAX_ENTRIES
 }
 
-/// The module of the form First that the bytes spell, and its marks.
-pub fn read_module(alloc: Global, bytes: &[u8]) -> Result<(Module, Marks), ReadError>
-    // What is read is spelled so.
-    ensures found { IfOk result (λ x. IsFirstBytes bytes.now x.0 x.1) }
-
-    // What is spelled so is read, unless memory runs out.
-    ensures only { (m : Module) (marks : Marks) → IsFirstBytes bytes.now m marks → Gives (λ x. x) result (Some (m, marks)) }
-
-    // The marks have a place for each instruction.
-    ensures placed { IfOk result (λ x. HasPlaces x.0 x.1) }
-
-    // Reading is a function of the bytes.
-    ensures exact { Gives (λ x. x) result (first_module bytes.now) }
+fn lacks_other_parts(m: &Module) -> bool
+    ensures { result ≡ lacks_other_parts m.now }
 {
-    first(alloc, bytes)
+    m.imports.len() == 0
+        && m.tables.len() == 0
+        && m.memories.len() == 0
+        && m.start.is_none()
+        && m.elems.len() == 0
+        && m.segments.len() == 0
+}
+
+fn are_empty_types(types: &[FuncType]) -> bool
+    ensures { result ≡ list_all is_empty_type types.now }
+{
+    types
+        .iter()
+        .all(|ty| ty.params.len() == 0 && ty.results.len() == 0)
+}
+
+fn is_first_global(global: &Global) -> bool
+    ensures { result ≡ is_first_global global.now }
+{
+    match global.ty.value {
+        ValType::I32 => global.ty.mutable,
+        ValType::I64 => false,
+    }
+}
+
+fn are_first_globals(globals: &[Global]) -> bool
+    ensures { result ≡ list_all is_first_global globals.now }
+{
+    globals.iter().all(|global| is_first_global(global))
+}
+
+fn is_function(kind: ExportKind) -> bool
+    ensures { result ≡ is_function kind }
+{
+    matches!(kind, ExportKind::Func(_))
+}
+
+fn are_functions(exports: &[Export]) -> bool
+    ensures { result ≡ list_all (λ export. is_function export.kind) exports.now }
+{
+    exports.iter().all(|export| is_function(export.kind))
+}
+
+fn is_first_instr(instr: &Instr) -> bool
+    ensures { result ≡ is_first_instr instr.now }
+{
+    match instr {
+        Instr::Plain(Plain::Nop) => true,
+        Instr::Plain(Plain::Drop) => true,
+        Instr::Const(Val::I32(_)) => true,
+        Instr::GlobalGet(_) => true,
+        Instr::GlobalSet(_) => true,
+        _ => false,
+    }
+}
+
+fn is_first_item(item: &Flat) -> bool
+    ensures { result ≡ is_first_item item.now }
+{
+    match item {
+        Flat::One(instr) => is_first_instr(instr),
+        _ => false,
+    }
+}
+
+/// Whether all instructions of a body are of the form.
+fn is_first_body(code: &Code) -> bool
+    ensures { result ≡ list_all is_first_instr code.now }
+{
+    let last = code.len() - 1;
+    for i in 0..last {
+        if !is_first_item(code.at(i)) {
+            return false;
+        }
+    }
+    true
+}
+
+fn are_first_funcs(funcs: &[Func]) -> bool
+    ensures { result ≡ list_all is_first_func funcs.now }
+{
+    funcs
+        .iter()
+        .all(|func| func.locals.len() == 0 && is_first_body(&func.body))
+}
+
+fn has_first_parts(m: &Module) -> bool
+    ensures { result ≡ has_first_parts m.now }
+{
+    are_empty_types(m.types.as_slice())
+        && are_first_globals(m.globals.as_slice())
+        && are_functions(m.exports.as_slice())
+        && are_first_funcs(m.funcs.as_slice())
+}
+
+fn passes(m: &Module) -> bool
+    ensures { result ≡ is_first m.now }
+{
+    are_vectors(m) && lacks_other_parts(m) && has_first_parts(m)
+}
+
+/// Whether a valid module is of the form First. Takes no memory, and one walk over the module.
+pub fn is_first(module: &ValidModule) -> bool
+    ensures { IsTrue result ↔ IsFirst «module».now }
+{
+    passes(module.module())
 }

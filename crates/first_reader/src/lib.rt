@@ -1,19 +1,13 @@
-//! Readers of the two small forms that the verifier takes so far: modules of the form First, and notes for them.
+//! What the verifier takes so far: whether a valid module is of the form First, and the reader of notes for such modules.
 #![tactic(auto)]
 
-mod bytes;
-mod entry;
 mod error;
 mod first;
-mod instrs;
-mod marks;
-mod module;
 mod notes;
 mod numeral;
 mod part;
 mod text;
-mod tree;
 
 pub use error::ReadError;
-pub use first::read_module;
+pub use first::is_first;
 pub use notes::read_notes;

@@ -10,14 +10,17 @@ use Rattle.wasm_values.specs.declared.number.Val.TheVariants as value
 use Rattle.wasm_syntax.specs.declared.instr.Instr.{Instr, Plain, Const, GlobalGet, GlobalSet}
 use Rattle.wasm_syntax.specs.declared.instr.Plain.TheVariants.{Nop, Drop}
 use Rattle.wasm_syntax.specs.declared.module.Func.{Func}
+use Rattle.wasm_syntax.specs.declared.module.Module.{Module}
+use Rattle.wasm_syntax.specs.declared.module.Marks.{Marks}
 use Rattle.wasm_syntax.specs.FlatForm.{is_simple, flat_body}
+use Rattle.wasm_typing.specs.Faults.{Marked}
 use Rattle.outline_check.specs.declared.notes.Formula.{Formula}
 use Rattle.outline_check.specs.declared.notes.Note.{Note}
 use Rattle.outline_check.specs.declared.notes.FuncNotes.{FuncNotes}
 use Rattle.outline_check.specs.declared.notes.Notes.{Notes}
 use Rattle.outline_check.specs.declared.stop.Refusal.{Refusal}
 use Rattle.outline_check.specs.declared.stop.Stop.{Stop}
-use Rattle.outline_check.specs.First.{IsFirstBody, IsFirstFunc}
+use Rattle.outline_check.specs.First.{IsFirstBody, IsFirstFunc, HasPlaceEach}
 use Rattle.outline_check.specs.Refusals.{and_then, IsSaid}
 use Rattle.outline_check.specs.Outlines.{rise_within, instructions, body_fits, notes_fit, notes_of, function_outline, functions_from}
 use Rattle.outline_check.specs.Cursors.{AreSimple, numbered}
@@ -43,6 +46,17 @@ zip-at R (a ∷ xs) (b ∷ ys) zero x y h e f = same (some a x e) (some b y f) h
     same : a ≡ x → b ≡ y → R a b → R x y
     same p q r = rw (← p, ← q) r
 zip-at R (a ∷ xs) (b ∷ ys) (suc i) x y h e f = zip-at R xs ys i x y h.1 e f
+
+zip-from : {A B : Type 0} (R : A → B → Type 0) (xs : List A) (ys : List B) → length ys ≡ length xs →
+    ((n : ℕ) (x : A) (y : B) → slice_get xs n ≡ Some x → slice_get ys n ≡ Some y → R x y) → AllZip R xs ys
+zip-from R [] [] e h = tt
+zip-from R [] (y ∷ ys) e h = absurd (omega arith)
+zip-from R (x ∷ xs) [] e h = absurd (omega arith)
+zip-from R (x ∷ xs) (y ∷ ys) e h = (h 0 x y refl refl, zip-from R xs ys (omega arith) (λ n x y. h (suc n) x y))
+
+-- marks with a place for each instruction
+pub marked-places : (m : Module) (k : Marks) → Marked m k → AllZip HasPlaceEach m.funcs k.code
+marked-places m k marked = zip-from HasPlaceEach m.funcs k.code marked.code marked.items
 
 -- a function of a module without blocks
 pub simple-at : (funcs : List Func) (i : ℕ) (func : Func) → AreSimple funcs → slice_get funcs i ≡ Some func → list_all is_simple func.body ≡ true

@@ -1,6 +1,5 @@
 -- The smallest class of modules that the outline check takes, named First.
 use Rattle.std.specs.Prelude.{◌≡◌, ◌≢◌, ℕ, zero, suc, ◌^◌, ◌<◌, true, List, [], ◌∷◌, length, All, AllPairs, None}
-use Rattle.std.specs.List.{AllZip}
 use Rattle.wasm_values.specs.declared.number.ValType.TheVariants as type
 use Rattle.wasm_values.specs.declared.number.Val.TheVariants as value
 use Rattle.wasm_syntax.specs.declared.instr.Instr.{Instr, Plain, Const, GlobalGet, GlobalSet}
@@ -13,7 +12,6 @@ use Rattle.wasm_syntax.specs.declared.module.ExportKind.{ExportKind}
 use Rattle.wasm_syntax.specs.declared.module.ExportKind.TheVariants as kind
 use Rattle.wasm_syntax.specs.declared.module.Custom.{Custom}
 use Rattle.wasm_syntax.specs.declared.module.Module.{Module}
-use Rattle.wasm_syntax.specs.declared.module.Marks.{Marks}
 use Rattle.wasm_syntax.specs.FlatForm.{flat_body}
 
 -- A number fits 32 bits (Core 2.2.2).
@@ -101,7 +99,3 @@ pub record IsFirst (m : Module) : Type 0 where
 -- The places of a body's instructions are as many as its instructions, its last `end` counted.
 abbrev pub HasPlaceEach : Func → List ℕ → Type 0
 HasPlaceEach func places = length places ≡ length (flat_body func.body)
-
--- The marks have a list of places for each function, and in it one place for each instruction.
-abbrev pub HasPlaces : Module → Marks → Type 0
-HasPlaces m marks = AllZip HasPlaceEach m.funcs marks.code

@@ -2,7 +2,8 @@ ghost use Rattle.std.specs.Prelude.{◌≡◌, ◌+◌, ◌<◌, ◌^◌, true, 
 ghost use Rattle.std.specs.List.{list_all, AllZip};
 ghost use Rattle.std.specs.Option.{option_copied};
 ghost use Rattle.wasm_syntax.specs.FlatForm.{is_simple};
-ghost use Rattle.outline_check.specs.First.{IsFirst, HasPlaces, HasPlaceEach};
+ghost use Rattle.wasm_typing.specs.Faults.{Marked};
+ghost use Rattle.outline_check.specs.First.{IsFirst, HasPlaceEach};
 ghost use Rattle.outline_check.specs.Refusals.{HasMemory, test_for, IsSaid, IsAnswer};
 ghost use Rattle.outline_check.specs.Outlines.{notes_of, body_fits, notes_fit, rise_within, instructions, functions_from, initial_outline, module_outline, outline};
 ghost use Rattle.outline_check.specs.Cursors.{IsCursor, AreSimple};
@@ -16,6 +17,7 @@ use crate::stop::{Refusal, Stop, Why};
 use crate::walk::check_function;
 use std::alloc::Global;
 use wasm_syntax::{Func, Marks, Module};
+use wasm_validate::ValidModule;
 use wasm_values::List;
 
 fn numbers_rise(notes: &[Note], high: usize) -> bool
@@ -140,7 +142,7 @@ fn check_initial(alloc: Global, m: &Module, notes: &Notes) -> Result<(), Stop<Wh
 
 fn check_all(alloc: Global, m: &Module, notes: &Notes, marks: &Marks) -> Result<(), Stop<Refusal>>
     requires first { IsFirst m.now }
-    requires marked { HasPlaces m.now marks.now }
+    requires marked { Marked m.now marks.now }
     ensures { IsSaid result (module_outline m.now marks.now notes.now) }
 {
     let funcs = m.funcs.as_slice();
@@ -157,13 +159,13 @@ fn check_all(alloc: Global, m: &Module, notes: &Notes, marks: &Marks) -> Result<
 #[tactic(auto, unfolding(crate::specs::Outlines::outline))]
 pub fn check_module(
     alloc: Global,
-    module: &Module,
+    module: &ValidModule,
     notes: &Notes,
     marks: &Marks,
 ) -> Result<Answer, CheckFault>
     requires first { IsFirst «module».now }
-    requires marked { HasPlaces «module».now marks.now }
+    requires marked { Marked «module».now marks.now }
     ensures { IsAnswer result (outline «module».now marks.now notes.now) }
 {
-    answered(check_all(alloc, module, notes, marks))
+    answered(check_all(alloc, module.module(), notes, marks))
 }

@@ -1,5 +1,6 @@
 ghost use Rattle.std.specs.Prelude.{◌≡◌, true, [], ◌∷◌, IfOk};
-ghost use Rattle.outline_check.specs.First.{IsFirst, HasPlaces};
+ghost use Rattle.wasm_typing.specs.Faults.{Marked};
+ghost use Rattle.outline_check.specs.First.{IsFirst};
 
 use super::*;
 use std::alloc::Global;
@@ -8,6 +9,7 @@ use wasm_syntax::{
     Code, Export, ExportKind, Func, FuncType, Global as GlobalEntry, GlobalType, Instr, Marks,
     Module,
 };
+use wasm_validate::validate;
 use wasm_values::{List, OutOfMemory, Text, Val, ValType};
 
 fn one<T: Drop>(alloc: Global, item: T) -> Result<List<T>, OutOfMemory>
@@ -92,10 +94,46 @@ fn exports(alloc: Global) -> Result<List<Export>, OutOfMemory>
     )
 }
 
+/// The places of that module's entries and instructions.
+fn marks(alloc: Global) -> Result<Marks, OutOfMemory>
+    ensures { IfOk result (λ marks. marks
+        ≡ record {
+          len = 43;
+          types = 11 ∷ [];
+          imports = [];
+          funcs = 17 ∷ [];
+          tables = [];
+          memories = [];
+          globals = 21 ∷ [];
+          exports = 29 ∷ [];
+          start = 0;
+          elems = [];
+          segments = [];
+          code = (38 ∷ 40 ∷ 42 ∷ []) ∷ [];
+        }) }
+{
+    let mut places = two(alloc, 0x26, 0x28)?;
+    places.push(0x2a)?;
+    Ok(Marks {
+        len: 43,
+        types: one(alloc, 11)?,
+        imports: List::new(alloc),
+        funcs: one(alloc, 17)?,
+        tables: List::new(alloc),
+        memories: List::new(alloc),
+        globals: one(alloc, 21)?,
+        exports: one(alloc, 29)?,
+        start: 0,
+        elems: List::new(alloc),
+        segments: List::new(alloc),
+        code: one(alloc, places)?,
+    })
+}
+
 /// The module of 43 bytes with one private global, whose function sets the global to `n`, and its marks.
 fn sample(alloc: Global, n: u32) -> Result<(Module, Marks), OutOfMemory>
     ensures first { IfOk result (λ pair. IsFirst pair.0) }
-    ensures marked { IfOk result (λ pair. HasPlaces pair.0 pair.1) }
+    ensures marked { IfOk result (λ pair. Marked pair.0 pair.1) }
 {
     let m = Module {
         types: types(alloc)?,
@@ -110,23 +148,14 @@ fn sample(alloc: Global, n: u32) -> Result<(Module, Marks), OutOfMemory>
         segments: List::new(alloc),
         customs: List::new(alloc),
     };
-    let mut places = two(alloc, 0x26, 0x28)?;
-    places.push(0x2a)?;
-    let marks = Marks {
-        len: 43,
-        types: List::new(alloc),
-        imports: List::new(alloc),
-        funcs: List::new(alloc),
-        tables: List::new(alloc),
-        memories: List::new(alloc),
-        globals: List::new(alloc),
-        exports: List::new(alloc),
-        start: 0,
-        elems: List::new(alloc),
-        segments: List::new(alloc),
-        code: one(alloc, places)?,
-    };
-    Ok((m, marks))
+    Ok((m, marks(alloc)?))
+}
+
+/// What the check answers for that module, once it is valid by its type.
+fn checked(alloc: Global, n: u32, notes: &Notes) -> Result<Result<Answer, CheckFault>, Fail> {
+    let (m, marks) = sample(alloc, n)?;
+    let valid = validate(alloc, m, &marks)?;
+    Ok(check_module(alloc, &valid, notes, &marks))
 }
 
 /// `(= (global K) 7)`
@@ -178,26 +207,19 @@ fn sample_notes(alloc: Global, global: u32, at: u32, fact: u32) -> Result<Notes,
 fn one_private_global(rt: HostRuntime) -> Result<(), Fail> {
     let alloc = rt.alloc();
     let notes = sample_notes(alloc, 0, 2, 3)?;
-    let (kept, marks) = sample(alloc, 7)?;
-    assert_eq!(rt;
-        check_module(alloc, &kept, &notes, &marks),
-        Ok(Answer::Verified)
-    );
-    let (changed, marks) = sample(alloc, 8)?;
-    let reason = Reason::Derivation(0);
+    assert_eq!(rt; checked(alloc, 7, &notes)?, Ok(Answer::Verified));
     let failed = Answer::Failed {
         at: 0x2a,
         function: Some(0),
-        reason,
+        reason: Reason::Derivation(0),
     };
-    assert_eq!(rt; check_module(alloc, &changed, &notes, &marks), Ok(failed));
+    assert_eq!(rt; checked(alloc, 8, &notes)?, Ok(failed));
     Ok(())
 }
 
 #[test]
 fn refusals(rt: HostRuntime) -> Result<(), Fail> {
     let alloc = rt.alloc();
-    let (kept, marks) = sample(alloc, 7)?;
     let at_end = Some(0);
     for (global, at, fact, place, function, reason) in [
         (1, 3, 3, 0, None, Reason::Notes),
@@ -211,7 +233,7 @@ fn refusals(rt: HostRuntime) -> Result<(), Fail> {
             function,
             reason,
         };
-        assert_eq!(rt; check_module(alloc, &kept, &notes, &marks), Ok(failed));
+        assert_eq!(rt; checked(alloc, 7, &notes)?, Ok(failed));
     }
     Ok(())
 }

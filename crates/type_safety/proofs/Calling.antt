@@ -10,8 +10,8 @@ use Rattle.wasm_values.specs.Operators.{type_of, value_of}
 use Rattle.wasm_syntax.specs.declared.module.FuncType.{FuncType}
 use Rattle.wasm_syntax.specs.declared.module.Func.{Func}
 use Rattle.wasm_syntax.specs.Trees.{Sequence, sequence_of}
-use Rattle.wasm_validate.specs.Typing.{Types, SequenceTyped}
-use Rattle.wasm_validate.specs.Valid.{ValInRange, SequenceInRange}
+use Rattle.wasm_typing.specs.Typing.{Types, SequenceTyped}
+use Rattle.wasm_typing.specs.Valid.{ValInRange, SequenceInRange}
 use Rattle.wasm_store.specs.declared.store.FuncInst.{FuncInst}
 use Rattle.wasm_store.specs.declared.store.FuncInst.TheVariants.{Code, Host}
 use Rattle.wasm_store.specs.declared.store.Instance.{Instance}

@@ -5,8 +5,8 @@ use Rattle.std.proofs.lemmas.List.Elements.{All-append, All-take}
 use Rattle.wasm_values.specs.declared.number.Val.{Val}
 use Rattle.wasm_values.specs.Operators.{type_of}
 use Rattle.wasm_syntax.specs.Trees.{Sequence}
-use Rattle.wasm_validate.specs.Typing.{Types}
-use Rattle.wasm_validate.specs.Valid.{ValInRange}
+use Rattle.wasm_typing.specs.Typing.{Types}
+use Rattle.wasm_typing.specs.Valid.{ValInRange}
 use Rattle.wasm_store.specs.declared.store.FuncInst.{FuncInst}
 use Rattle.wasm_store.specs.declared.store.Store.{Store}
 use Rattle.wasm_store.specs.Configuration.{OpenBlock, Activation, Layer, OfCode, OfHost, Configuration, going, trapped}

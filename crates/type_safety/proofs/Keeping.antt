@@ -13,8 +13,8 @@ use Rattle.wasm_syntax.specs.declared.instr.LoadOp.{LoadOp}
 use Rattle.wasm_syntax.specs.declared.instr.StoreOp.{StoreOp}
 use Rattle.wasm_syntax.specs.declared.module.GlobalType.{GlobalType}
 use Rattle.wasm_syntax.specs.Trees.{Sequence}
-use Rattle.wasm_validate.specs.Typing.{Types, SequenceTyped}
-use Rattle.wasm_validate.specs.Valid.{ValInRange, SequenceInRange}
+use Rattle.wasm_typing.specs.Typing.{Types, SequenceTyped}
+use Rattle.wasm_typing.specs.Valid.{ValInRange, SequenceInRange}
 use Rattle.wasm_store.specs.declared.store.FuncInst.TheVariants.{Code}
 use Rattle.wasm_store.specs.declared.store.MemInst.{MemInst}
 use Rattle.wasm_store.specs.declared.store.GlobalInst.{GlobalInst}

@@ -2,7 +2,7 @@
 use Rattle.std.proofs.Common.{◌≡◌, ℕ, ◌<◌, Some, map, length, slice_get, sym, ap, ◌∙◌, subst}
 use Rattle.wasm_syntax.specs.declared.module.FuncType.{FuncType}
 use Rattle.wasm_syntax.specs.declared.module.GlobalType.{GlobalType}
-use Rattle.wasm_validate.specs.Typing.{Context}
+use Rattle.wasm_typing.specs.Typing.{Context}
 use Rattle.wasm_store.specs.declared.store.FuncInst.{FuncInst}
 use Rattle.wasm_store.specs.declared.store.TableInst.{TableInst}
 use Rattle.wasm_store.specs.declared.store.MemInst.{MemInst}

@@ -10,8 +10,8 @@ use Rattle.wasm_syntax.specs.declared.instr.Plain.{Plain}
 use Rattle.wasm_syntax.specs.declared.instr.Plain.TheVariants.{Unreachable, Nop, Return, Drop, Select, MemorySize, MemoryGrow}
 use Rattle.wasm_syntax.specs.Trees as tree
 use Rattle.wasm_syntax.specs.Trees.{Instruction, Sequence, Empty, Then, IfElse}
-use Rattle.wasm_validate.specs.Typing.{Types, types_of, PlainTyped, InstructionTyped, SequenceTyped}
-use Rattle.wasm_validate.specs.Valid.{ValInRange, InstructionInRange, SequenceInRange}
+use Rattle.wasm_typing.specs.Typing.{Types, types_of, PlainTyped, InstructionTyped, SequenceTyped}
+use Rattle.wasm_typing.specs.Valid.{ValInRange, InstructionInRange, SequenceInRange}
 use Rattle.wasm_store.specs.declared.store.FuncInst.TheVariants.{Code}
 use Rattle.wasm_store.specs.declared.store.Store.{Store}
 use Rattle.wasm_store.specs.Configuration.{OpenBlock, Activation, Layer, OfCode, OfHost, Configuration, going}

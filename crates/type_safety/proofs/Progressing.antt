@@ -13,7 +13,7 @@ use Rattle.wasm_syntax.specs.declared.instr.Plain.TheVariants.{Unreachable, Nop,
 use Rattle.wasm_syntax.specs.declared.module.FuncType.{FuncType}
 use Rattle.wasm_syntax.specs.Trees as tree
 use Rattle.wasm_syntax.specs.Trees.{Instruction, Sequence, Empty, Then, IfElse}
-use Rattle.wasm_validate.specs.Typing.{Types, PlainTyped, InstructionTyped, SequenceTyped}
+use Rattle.wasm_typing.specs.Typing.{Types, PlainTyped, InstructionTyped, SequenceTyped}
 use Rattle.wasm_store.specs.declared.store.FuncInst.{FuncInst}
 use Rattle.wasm_store.specs.declared.store.FuncInst.TheVariants.{Code, Host}
 use Rattle.wasm_store.specs.declared.store.TableInst.{TableInst}

@@ -10,10 +10,10 @@ use Rattle.wasm_values.proofs.RangeLaws.{num_unary-lt, num_binary-lt, sign_exten
 use Rattle.wasm_values.proofs.ByteLaws.{number_of_bytes-lt}
 use Rattle.wasm_syntax.specs.declared.instr.LoadOp.{LoadOp}
 use Rattle.wasm_syntax.specs.declared.instr.LoadOp.TheVariants as load
-use Rattle.wasm_validate.specs.Valid.{ValInRange}
+use Rattle.wasm_typing.specs.Valid.{ValInRange}
 use Rattle.wasm_syntax.specs.declared.instr.StoreOp.{StoreOp}
 use Rattle.wasm_syntax.specs.declared.instr.StoreOp.TheVariants as store
-use Rattle.wasm_validate.specs.Typing.{load_type, store_type}
+use Rattle.wasm_typing.specs.Typing.{load_type, store_type}
 use Rattle.wasm_store.specs.Memory.{loaded_type, bytes_loaded, value_loaded, stored_type}
 
 pub type_of-value_of : (ty : ValType) (n : ℕ) → type_of (value_of ty n) ≡ ty

@@ -4,8 +4,8 @@ use Rattle.std.specs.Prelude.{◌≡◌, ℕ, List, [], ◌∷◌, ◌++◌, Opt
 use Rattle.wasm_values.specs.declared.number.Val.{Val}
 use Rattle.wasm_syntax.specs.declared.module.FuncType.{FuncType}
 use Rattle.wasm_syntax.specs.Trees.{Sequence}
-use Rattle.wasm_validate.specs.Typing.{Types, Context, SequenceTyped}
-use Rattle.wasm_validate.specs.Valid.{ValInRange, SequenceInRange}
+use Rattle.wasm_typing.specs.Typing.{Types, Context, SequenceTyped}
+use Rattle.wasm_typing.specs.Valid.{ValInRange, SequenceInRange}
 use Rattle.wasm_store.specs.declared.store.FuncInst.TheVariants.{Code, Host}
 use Rattle.wasm_store.specs.declared.store.Instance.{Instance}
 use Rattle.wasm_store.specs.Configuration.{OpenBlock, Activation, Layer, OfCode, OfHost}

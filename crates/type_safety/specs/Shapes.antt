@@ -5,8 +5,8 @@ use Rattle.wasm_values.specs.declared.number.ValType.{ValType}
 use Rattle.wasm_values.specs.Operators.{type_of}
 use Rattle.wasm_syntax.specs.declared.module.FuncType.{FuncType}
 use Rattle.wasm_syntax.specs.declared.module.GlobalType.{GlobalType}
-use Rattle.wasm_validate.specs.Typing.{Context}
-use Rattle.wasm_validate.specs.Valid.{ValInRange}
+use Rattle.wasm_typing.specs.Typing.{Context}
+use Rattle.wasm_typing.specs.Valid.{ValInRange}
 use Rattle.wasm_store.specs.declared.store.FuncInst.{FuncInst}
 use Rattle.wasm_store.specs.declared.store.GlobalInst.{GlobalInst}
 use Rattle.wasm_store.specs.declared.store.Extern.{Extern}

@@ -4,8 +4,8 @@ use Rattle.wasm_values.specs.Operators.{type_of}
 use Rattle.wasm_syntax.specs.declared.module.FuncType.{FuncType}
 use Rattle.wasm_syntax.specs.declared.module.Func.{Func}
 use Rattle.wasm_syntax.specs.Trees.{sequence_of}
-use Rattle.wasm_validate.specs.Typing.{Context, BodyTyped}
-use Rattle.wasm_validate.specs.Valid.{TypeValid, ValInRange, SequenceInRange}
+use Rattle.wasm_typing.specs.Typing.{Context, BodyTyped}
+use Rattle.wasm_typing.specs.Valid.{TypeValid, ValInRange, SequenceInRange}
 use Rattle.wasm_store.specs.declared.store.FuncInst.{FuncInst}
 use Rattle.wasm_store.specs.declared.store.FuncInst.TheVariants.{Code, Host}
 use Rattle.wasm_store.specs.declared.store.TableInst.{TableInst}

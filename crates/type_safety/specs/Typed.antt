@@ -1,6 +1,6 @@
 -- Typed configurations (Core Specification, appendix 'Soundness').
 use Rattle.std.specs.Prelude.{◌≡◌, List, [], ◌∷◌, All}
-use Rattle.wasm_validate.specs.Valid.{ValInRange}
+use Rattle.wasm_typing.specs.Valid.{ValInRange}
 use Rattle.wasm_store.specs.declared.config.Outcome.{Outcome}
 use Rattle.wasm_store.specs.declared.config.Outcome.TheVariants.{Running, Done, Trapped}
 use Rattle.wasm_store.specs.Configuration.{Layer, Configuration}

@@ -1,121 +1,187 @@
 -- A report is good exactly where the words and files are accepted.
-use Rattle.std.proofs.Common.{◌≡◌, ℕ, ◌≤◌, Bool, true, false, cond, ltb, List, [], ◌∷◌, length, Option, Some, None, Result, Ok, Err, refl, sym, subst, inl, inr, codes}
-use Rattle.std.specs.Prelude.{IfSome}
-use Rattle.std.specs.Str.{bytes_eq}
-use Rattle.std.proofs.lemmas.Bool.{ltb-false, le-ltb}
-use Rattle.std.proofs.lemmas.Slice.Eq.{bytes_eq-Decides}
+use Rattle.std.proofs.Common.{◌≡◌, ℕ, ◌≤◌, List, length, Option, Some, None, refl, sym, ap, subst, ◌∙◌, inl, inr}
+use Rattle.std.specs.Prelude.{IsSomeAnd}
 use Rattle.wasm_syntax.specs.declared.module.Module.{Module}
 use Rattle.wasm_syntax.specs.declared.module.Marks.{Marks}
+use Rattle.binary_grammar.specs.declared.fault.DecodeFault.{DecodeFault}
+use Rattle.binary_grammar.specs.declared.fault.DecodeFault.TheVariants as decode
+use Rattle.binary_grammar.specs.Bounds.{the_bounds}
+use Rattle.binary_grammar.specs.ModuleGrammar.{Spells, InLimits}
+use Rattle.wasm_typing.specs.Valid.{Valid}
 use Rattle.outline_check.specs.declared.notes.Notes.{Notes}
+use Rattle.outline_check.specs.First.{IsFirst}
 use Rattle.outline_check.specs.Refusals.{Outline, Verified, Failed, Limit}
 use Rattle.outline_check.specs.Outlines.{outline}
-use Rattle.rw_edge.specs.Files.{contents_of}
-use Rattle.first_reader.specs.Trees.{first_module}
 use Rattle.first_reader.specs.ReadingNotes.{first_notes}
-use Rattle.first_reader.specs.First.{IsFirstBytes}
 use Rattle.first_reader.specs.FirstNotes.{IsFirstText}
-use Rattle.first_reader.proofs.TreeLaws as trees
 use Rattle.first_reader.proofs.NoteLaws as notes_laws
-use Rattle.verify_command.specs.declared.status.Status.{Status}
+use Rattle.rw_edge.specs.Files.{contents_of}
 use Rattle.verify_command.specs.declared.status.Status.TheVariants as status
-use Rattle.verify_command.specs.Reports.{Report, module_limit, notes_limit, outlined, noted, read_as, judged, with_contents, module_too_long, notes_too_long, notes_report, verify_report, report, words_refused, Comes}
-use Rattle.verify_command.specs.Accepted.{IsAccepted}
+use Rattle.verify_command.specs.Reports.{Report, Files, Command, Check, Show, Verify, module_limit, module_too_long, notes_limit, notes_too_long, module_valid, module_listed, outlined, noted, IsFaultReport, OfFile, OfBytes, OfModule, OfFirst, OfChecked, OfShown, OfJudged, OfNotes, OfCommand, command_of, IsReport}
+use Rattle.verify_command.proofs.ReportLaws as stages
+use Rattle.verify_command.specs.Accepted.{IsModule, IsValidModule, Accepts, Accepted, IsAccepted}
 
-good_outline : (r : Outline) → (outlined r).status ≡ status.Good → r ≡ Verified
+-- reports that are not good
+abbrev IsGood : Report → Type 0
+IsGood r = r.status ≡ status.Good
+
+not_good : (r s : Report) → r ≡ s → (s.status ≡ status.Good → ⊥) → IsGood r → ⊥
+not_good r s e bad good = bad (sym (ap (λ (q : Report). q.status) e) ∙ good)
+
+-- ---- a file
+
+good_file : (limit : ℕ) (long : Report) (Next : List ℕ → Report → Type 0) (o : Option (List ℕ)) (r : Report) → (long.status ≡ status.Good → ⊥) → OfFile limit long Next o r → IsGood r →
+    IsSomeAnd o (λ c. (length c ≤ limit) × Next c r)
+unfolding OfFile
+good_file limit long Next None r bad h good = not_good r _ h (λ e. absurd cc) good
+good_file limit long Next (Some c) r bad (inl h) good = absurd (not_good r long h.1 bad good)
+good_file limit long Next (Some c) r bad (inr h) good = h
+
+file_good : (limit : ℕ) (long : Report) (Next : List ℕ → Report → Type 0) (o : Option (List ℕ)) (c : List ℕ) (r : Report) → o ≡ Some c → length c ≤ limit → Next c r → OfFile limit long Next o r
+unfolding OfFile
+file_good limit long Next o c r e le next = let F : Option (List ℕ) → Type 0 = λ p. OfFile limit long Next p r in subst F (sym e) (inr (le, next))
+
+-- ---- bytes and modules
+
+not_fault : (fault : DecodeFault) (r : Report) → IsFaultReport fault r → IsGood r → ⊥
+not_fault (decode.Malformed at w) r h good = not_good r _ h (λ e. absurd cc) good
+not_fault (decode.Limit at w) r h good = not_good r _ h (λ e. absurd cc) good
+not_fault decode.OutOfMemory r h good = h
+
+good_bytes : (Next : Module → Marks → Report → Type 0) (bytes : List ℕ) (r : Report) → OfBytes Next bytes r → IsGood r → (m : Module) × (k : Marks) × Spells bytes m k × InLimits the_bounds m × Next m k r
+unfolding OfBytes
+good_bytes Next bytes r (inl h) good = h
+good_bytes Next bytes r (inr h) good = absurd (not_fault h.0 r h.2 good)
+
+good_module : (Next : Module → Marks → Report → Type 0) (m : Module) (k : Marks) (r : Report) → OfModule Next m k r → IsGood r → Valid m × Next m k r
+unfolding OfModule
+good_module Next m k r (inl h) good = h
+good_module Next m k r (inr h) good = absurd (not_good r _ h.3 (λ e. absurd cc) good)
+
+-- ---- notes and the outline
+
+good_outline : (o : Outline) → IsGood (outlined o) → o ≡ Verified
 good_outline Verified e = refl
 good_outline (Failed at function reason) e = absurd cc
 good_outline (Limit at word) e = absurd cc
 
--- what a good verdict on bytes and text rests on
-record IsJudged (bytes text : List ℕ) : Type 0 where
-  «module» : Module
-  marks : Marks
+-- what a good verdict on a valid module and a text rests on
+record IsJudged (text : List ℕ) (m : Module) (k : Marks) : Type 0 where
   notes : Notes
-  read : IsFirstBytes bytes «module» marks
+  first : IsFirst m
   said : IsFirstText text notes
-  verified : outline «module» marks notes ≡ Verified
+  verified : outline m k notes ≡ Verified
 
-good_notes : (bytes text : List ℕ) (m : Module) (k : Marks) → IsFirstBytes bytes m k → (o : Option Notes) → first_notes text ≡ o → (noted m k o).status ≡ status.Good → IsJudged bytes text
-good_notes bytes text m k r None e g = absurd cc
-good_notes bytes text m k r (Some a) e g = record { «module» = m; marks = k; notes = a; read = r; said = notes_laws.found text a e; verified = good_outline (outline m k a) g }
+good_notes : (text : List ℕ) (m : Module) (k : Marks) (o : Option Notes) → first_notes text ≡ o → IsFirst m → IsGood (noted m k o) → IsJudged text m k
+good_notes text m k None e first good = absurd cc
+good_notes text m k (Some a) e first good = record { notes = a; first = first; said = notes_laws.found text a e; verified = good_outline (outline m k a) good }
 
-good_judged : (bytes text : List ℕ) → (judged bytes text).status ≡ status.Good → IsJudged bytes text
-unfolding judged
-good_judged bytes text g = by (first_module bytes) refl g where
-  by : (o : Option (Module × Marks)) → first_module bytes ≡ o → (read_as o text).status ≡ status.Good → IsJudged bytes text
-  by None e g = absurd cc
-  by (Some x) e g = good_notes bytes text x.0 x.1 (trees.found bytes x e) (first_notes text) refl g
+good_first : (text : List ℕ) (m : Module) (k : Marks) (r : Report) → OfFirst text m k r → IsGood r → IsJudged text m k
+unfolding OfFirst
+good_first text m k r (inl h) good = good_notes text m k (first_notes text) refl h.0 (subst IsGood h.1 good)
+good_first text m k r (inr h) good = absurd (not_good r _ h.1 (λ e. absurd cc) good)
 
-judged_good : (bytes text : List ℕ) → IsJudged bytes text → (judged bytes text).status ≡ status.Good
-unfolding judged
-judged_good bytes text h =
-    let m : first_module bytes ≡ Some (h.«module», h.marks) = trees.found_again bytes h.«module» h.marks h.read in
-    let a : first_notes text ≡ Some h.notes = notes_laws.found_again text h.notes h.said in
-    rw (m, a, h.verified) refl
+first_good : (text : List ℕ) (m : Module) (k : Marks) → IsJudged text m k → OfFirst text m k (outlined Verified)
+unfolding OfFirst
+first_good text m k h =
+    let read : first_notes text ≡ Some h.notes = notes_laws.found_again text h.notes h.said in
+    inl (h.first, sym (ap (noted m k) read ∙ ap outlined h.verified))
 
--- a file that is there and is not too long
-good_contents : (limit : ℕ) (long : Report) (next : List ℕ → Report) (o : Option (List ℕ)) → (long.status ≡ status.Good → ⊥) → (with_contents limit long next o).status ≡ status.Good → (c : List ℕ) × (o ≡ Some c) × (length c ≤ limit) × ((next c).status ≡ status.Good)
-good_contents limit long next None bad e = absurd cc
-good_contents limit long next (Some c) bad e = by (ltb limit (length c)) (ltb-false limit (length c)) e where
-  by : (t : Bool) → (t ≡ false → length c ≤ limit) → (cond t long (next c)).status ≡ status.Good → (d : List ℕ) × (Some c ≡ Some d) × (length d ≤ limit) × ((next d).status ≡ status.Good)
-  by true le e = absurd (bad e)
-  by false le e = (c, refl, le refl, e)
+-- ---- commands
 
-contents_good : (limit : ℕ) (long : Report) (next : List ℕ → Report) (o : Option (List ℕ)) (c : List ℕ) → o ≡ Some c → length c ≤ limit → (next c).status ≡ status.Good → (with_contents limit long next o).status ≡ status.Good
-contents_good limit long next o c e le g = rw (e, le-ltb limit (length c) le) g
+there_is : {P : List ℕ → Type 0} (o : Option (List ℕ)) → IsSomeAnd o P → (c : List ℕ) × (o ≡ Some c) × P c
+there_is None h = absurd h
+there_is (Some c) h = (c, refl, h)
 
-good_files : (files : List (List ℕ × List ℕ)) (m n : List ℕ) → (verify_report files m n).status ≡ status.Good → IsAccepted (codes "verify" ∷ m ∷ n ∷ []) files
-good_files files m n g =
-    let a = good_contents module_limit module_too_long (λ bytes. notes_report bytes (contents_of files n)) (contents_of files m) (λ e. absurd cc) g in
-    let b = good_contents notes_limit notes_too_long (judged a.0) (contents_of files n) (λ e. absurd cc) a.3 in
-    let j = good_judged a.0 b.0 b.3 in
+at_some : {P Q : List ℕ → Type 0} (o : Option (List ℕ)) → ((c : List ℕ) → P c → Q c) → IsSomeAnd o P → IsSomeAnd o Q
+at_some None f h = h
+at_some (Some c) f h = f c h
+
+good_checked : (bytes : List ℕ) (r : Report) → length bytes ≤ module_limit → OfChecked bytes r → IsGood r → IsValidModule bytes
+good_checked bytes r le h good =
+    let Next : Module → Marks → Report → Type 0 = λ m k r. r ≡ module_valid in
+    let b = good_bytes (OfModule Next) bytes r h good in
+    let v = good_module Next b.0 b.1 r b.4 good in
+    record { «module» = b.0; marks = b.1; few_bytes = le; spelled = b.2; within = b.3; valid = v.0 }
+
+checked_good : (bytes : List ℕ) → IsValidModule bytes → OfChecked bytes module_valid
+checked_good bytes v =
+    let Next : Module → Marks → Report → Type 0 = λ m k r. r ≡ module_valid in
+    stages.spelled (OfModule Next) bytes v.module v.marks module_valid v.spelled v.within (stages.valid Next v.module v.marks module_valid v.valid refl)
+
+good_shown : (bytes : List ℕ) (r : Report) → length bytes ≤ module_limit → OfShown bytes r → IsGood r → IsModule bytes
+good_shown bytes r le h good =
+    let b = good_bytes (λ m k r. r ≡ module_listed m k) bytes r h good in
+    record { «module» = b.0; marks = b.1; few_bytes = le; spelled = b.2; within = b.3 }
+
+shown_good : (bytes : List ℕ) → (v : IsModule bytes) → OfShown bytes (module_listed v.module v.marks)
+shown_good bytes v = stages.spelled (λ m k r. r ≡ module_listed m k) bytes v.module v.marks (module_listed v.module v.marks) v.spelled v.within refl
+
+good_judged : (bytes text : List ℕ) (r : Report) → length bytes ≤ module_limit → length text ≤ notes_limit → OfJudged bytes text r → IsGood r → Accepts bytes text
+good_judged bytes text r few short h good =
+    let b = good_bytes (OfModule (OfFirst text)) bytes r h good in
+    let v = good_module (OfFirst text) b.0 b.1 r b.4 good in
+    let j = good_first text b.0 b.1 r v.1 good in
     record {
-      «module» = m;
-      notes = n;
-      bytes = a.0;
-      text = b.0;
-      words_are = refl;
-      module_there = a.1;
-      notes_there = b.1;
-      accepts = record { «module» = j.«module»; marks = j.marks; notes = j.notes; few_bytes = a.2; short = b.2; read = j.read; noted = j.said; verified = j.verified };
+      «module» = b.0;
+      marks = b.1;
+      notes = j.notes;
+      few_bytes = few;
+      short = short;
+      spelled = b.2;
+      within = b.3;
+      valid = v.0;
+      first = j.first;
+      noted = j.said;
+      verified = j.verified;
     }
 
--- words that are not refused
-good_words : (words : List (List ℕ)) (files : List (List ℕ × List ℕ)) → (report words files).status ≡ status.Good → IsAccepted words files
-good_words [] files g = absurd cc
-good_words (w ∷ []) files g = absurd cc
-good_words (w ∷ m ∷ []) files g = absurd cc
-good_words (w ∷ m ∷ n ∷ []) files g = by (bytes_eq w (codes "verify")) (bytes_eq-Decides w (codes "verify")).0 g where
-  by : (t : Bool) → (t ≡ true → w ≡ codes "verify") → (cond t (verify_report files m n) words_refused).status ≡ status.Good → IsAccepted (w ∷ m ∷ n ∷ []) files
-  by true is g = subst (λ v. IsAccepted (v ∷ m ∷ n ∷ []) files) (sym (is refl)) (good_files files m n g)
-  by false is g = absurd cc
-good_words (w ∷ m ∷ n ∷ k ∷ ks) files g = absurd cc
+judged_good : (bytes text : List ℕ) → Accepts bytes text → OfJudged bytes text (outlined Verified)
+judged_good bytes text a =
+    let j : IsJudged text a.module a.marks = record { notes = a.notes; first = a.first; said = a.noted; verified = a.verified } in
+    stages.spelled (OfModule (OfFirst text)) bytes a.module a.marks (outlined Verified) a.spelled a.within
+    (stages.valid (OfFirst text) a.module a.marks (outlined Verified) a.valid (first_good text a.module a.marks j))
 
-words_good : (words : List (List ℕ)) (files : List (List ℕ × List ℕ)) → IsAccepted words files → (report words files).status ≡ status.Good
-words_good words files h =
-    let a = h.accepts in
-    let judged_fine = judged_good h.bytes h.text (record { «module» = a.«module»; marks = a.marks; notes = a.notes; read = a.read; said = a.noted; verified = a.verified }) in
-    let notes_fine = contents_good notes_limit notes_too_long (judged h.bytes) (contents_of files h.notes) h.text h.notes_there a.short judged_fine in
-    let fine : (verify_report files h.«module» h.notes).status ≡ status.Good =
-    contents_good module_limit module_too_long (λ bytes. notes_report bytes (contents_of files h.notes)) (contents_of files h.«module») h.bytes h.module_there a.few_bytes notes_fine in
-    subst (λ ws. (report ws files).status ≡ status.Good) (sym h.words_are) fine
+good_files : (bytes : List ℕ) (o : Option (List ℕ)) (r : Report) → length bytes ≤ module_limit → OfNotes bytes o r → IsGood r → IsSomeAnd o (Accepts bytes)
+good_files bytes o r few h good =
+    at_some {P = λ text. (length text ≤ notes_limit) × OfJudged bytes text r} {Q = Accepts bytes} o (λ text x. good_judged bytes text r few x.0 x.1 good)
+    (good_file notes_limit notes_too_long (OfJudged bytes) o r (λ e. absurd cc) h good)
 
--- ---- as clauses of a run
+good_command : (files : Files) (c : Option Command) (r : Report) → OfCommand files c r → IsGood r → Accepted files c
+good_command files None r h good = not_good r _ h (λ e. absurd cc) good
+good_command files (Some (Check m)) r h good =
+    at_some {P = λ c. (length c ≤ module_limit) × OfChecked c r} {Q = IsValidModule} (contents_of files m) (λ c x. good_checked c r x.0 x.1 good)
+    (good_file module_limit module_too_long OfChecked (contents_of files m) r (λ e. absurd cc) h good)
+good_command files (Some (Show m)) r h good =
+    at_some {P = λ c. (length c ≤ module_limit) × OfShown c r} {Q = IsModule} (contents_of files m) (λ c x. good_shown c r x.0 x.1 good)
+    (good_file module_limit module_too_long OfShown (contents_of files m) r (λ e. absurd cc) h good)
+good_command files (Some (Verify m n)) r h good =
+    let Next : List ℕ → Report → Type 0 = λ c. OfNotes c (contents_of files n) in
+    at_some {P = λ c. (length c ≤ module_limit) × Next c r} {Q = λ c. IsSomeAnd (contents_of files n) (Accepts c)} (contents_of files m) (λ c x. good_files c (contents_of files n) r x.0 x.1 good)
+    (good_file module_limit module_too_long Next (contents_of files m) r (λ e. absurd cc) h good)
 
-came_good : (wanted : Status) (read_fault write_fault : Type 0) → Comes status.Good wanted read_fault write_fault → wanted ≡ status.Good
-came_good wanted r w (inl e) = sym e
-came_good wanted r w (inr (inl e)) = absurd cc
-came_good wanted r w (inr (inr (inl e))) = absurd (not_read e.0) where
-  not_read : status.Good ≡ status.ReadFault → ⊥
-  not_read e = absurd cc
-came_good wanted r w (inr (inr (inr e))) = absurd (not_written e.0) where
-  not_written : status.Good ≡ status.WriteFault → ⊥
-  not_written e = absurd cc
+command_good : (files : Files) (c : Option Command) → Accepted files c → (r : Report) × OfCommand files c r × IsGood r
+command_good files None h = absurd h
+command_good files (Some (Check m)) h =
+    let there = there_is {P = IsValidModule} (contents_of files m) h in
+    let v : IsValidModule there.0 = there.2 in
+    (module_valid, file_good module_limit module_too_long OfChecked (contents_of files m) there.0 module_valid there.1 v.few_bytes (checked_good there.0 v), refl)
+command_good files (Some (Show m)) h =
+    let there = there_is {P = IsModule} (contents_of files m) h in
+    let v : IsModule there.0 = there.2 in
+    let r : Report = module_listed v.module v.marks in
+    (r, file_good module_limit module_too_long OfShown (contents_of files m) there.0 r there.1 v.few_bytes (shown_good there.0 v), refl)
+command_good files (Some (Verify m n)) h =
+    let bytes = there_is {P = λ c. IsSomeAnd (contents_of files n) (Accepts c)} (contents_of files m) h in
+    let text = there_is {P = Accepts bytes.0} (contents_of files n) bytes.2 in
+    let a : Accepts bytes.0 text.0 = text.2 in
+    let r : Report = outlined Verified in
+    let Next : List ℕ → Report → Type 0 = λ c. OfNotes c (contents_of files n) in
+    let notes : OfNotes bytes.0 (contents_of files n) r = file_good notes_limit notes_too_long (OfJudged bytes.0) (contents_of files n) text.0 r text.1 a.short (judged_good bytes.0 text.0 a) in
+    (r, file_good module_limit module_too_long Next (contents_of files m) bytes.0 r bytes.1 a.few_bytes notes, refl)
 
-pub good_is_accepted : (words : List (List ℕ)) (files : Option (List (List ℕ × List ℕ))) (came : Status) (r w : Type 0) → IfSome files (λ f. Comes came (report words f).status r w) → came ≡ status.Good → IfSome files (λ f. IsAccepted words f)
-good_is_accepted words None came r w h g = tt
-good_is_accepted words (Some files) came r w h g = good_words words files (came_good (report words files).status r w (subst (λ s. Comes s (report words files).status r w) g h))
+pub reported_accepted : (words : List (List ℕ)) (files : Files) (r : Report) → IsReport words files r → r.status ≡ status.Good → IsAccepted words files
+reported_accepted words files = good_command files (command_of words)
 
-pub accepted_is_good : (words : List (List ℕ)) (files : Option (List (List ℕ × List ℕ))) (came : Status) (r w : Type 0) → IfSome files (λ f. Comes came (report words f).status r w) → IfSome files (λ f. IsAccepted words f → Comes came status.Good r w)
-accepted_is_good words None came r w h = tt
-accepted_is_good words (Some files) came r w h = λ a. subst (λ s. Comes came s r w) (words_good words files a) h
+pub accepted_reported : (words : List (List ℕ)) (files : Files) → IsAccepted words files → (r : Report) × IsReport words files r × (r.status ≡ status.Good)
+accepted_reported words files = command_good files (command_of words)

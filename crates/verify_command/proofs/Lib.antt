@@ -1,1 +1,6 @@
+pub mod MarkLaws
+pub mod InvalidLaws
+pub mod ReportLaws
+pub mod OnceLaws
 pub mod AcceptLaws
+pub mod OutcomeLaws

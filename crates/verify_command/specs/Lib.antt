@@ -1,4 +1,5 @@
 pub mod Statuses
 pub mod Lines
 pub mod Reports
+pub mod Outcomes
 pub mod Accepted

@@ -5,6 +5,12 @@ use Rattle.outline_check.specs.declared.answer.Reason.{Reason}
 use Rattle.outline_check.specs.declared.answer.Reason.TheVariants as reason
 use Rattle.outline_check.specs.declared.answer.LimitWord.{LimitWord}
 use Rattle.outline_check.specs.declared.answer.LimitWord.TheVariants as word
+use Rattle.binary_grammar.specs.declared.fault.DecodeWord.{DecodeWord}
+use Rattle.binary_grammar.specs.declared.fault.DecodeWord.TheVariants as decode
+use Rattle.binary_grammar.specs.declared.fault.LimitWord as bounds
+use Rattle.binary_grammar.specs.declared.fault.LimitWord.TheVariants as bound
+use Rattle.wasm_typing.specs.declared.fault.ValidWord.{ValidWord}
+use Rattle.wasm_typing.specs.declared.fault.ValidWord.TheVariants as valid
 
 -- A line ends in one newline.
 abbrev pub line : List ℕ → List ℕ
@@ -52,6 +58,50 @@ limit_text word.Chunks = codes "chunks"
 limit_text word.Variables = codes "variables"
 limit_text word.Derivation = codes "derivation"
 
+-- The words of the decoder's limits.
+abbrev pub bound_text : bounds.LimitWord → List ℕ
+bound_text bound.Module = codes "module"
+bound_text bound.Notes = codes "notes"
+bound_text bound.Script = codes "script"
+bound_text bound.Types = codes "types"
+bound_text bound.Imports = codes "imports"
+bound_text bound.Functions = codes "functions"
+bound_text bound.Globals = codes "globals"
+bound_text bound.Params = codes "params"
+bound_text bound.Locals = codes "locals"
+bound_text bound.Nesting = codes "nesting"
+bound_text bound.Nodes = codes "nodes"
+bound_text bound.State = codes "state"
+bound_text bound.Facts = codes "facts"
+bound_text bound.Chunks = codes "chunks"
+bound_text bound.Variables = codes "variables"
+bound_text bound.Derivation = codes "derivation"
+
+-- The words of the decoder's faults.
+abbrev pub decode_text : DecodeWord → List ℕ
+decode_text decode.End = codes "end"
+decode_text decode.Magic = codes "magic"
+decode_text decode.Byte = codes "byte"
+decode_text decode.Order = codes "order"
+decode_text decode.Size = codes "size"
+decode_text decode.Number = codes "number"
+decode_text decode.Utf8 = codes "utf8"
+decode_text decode.Float = codes "float"
+decode_text decode.Count = codes "count"
+
+-- The words of the validator's faults.
+abbrev pub valid_text : ValidWord → List ℕ
+valid_text valid.WrongType = codes "type"
+valid_text valid.Count = codes "count"
+valid_text valid.Index = codes "index"
+valid_text valid.Limits = codes "limits"
+valid_text valid.Const = codes "const"
+valid_text valid.Export = codes "export"
+valid_text valid.Start = codes "start"
+valid_text valid.Label = codes "label"
+valid_text valid.Align = codes "align"
+valid_text valid.Stack = codes "stack"
+
 -- The function, where one is meant.
 abbrev pub function_text : Option ℕ → List ℕ
 function_text None = []
@@ -61,6 +111,21 @@ function_text (Some f) = codes " in function " ++ decimal f
 abbrev pub failed_line : ℕ → Option ℕ → Reason → List ℕ
 failed_line at function reason = line (codes "failed: " ++ (reason_text reason ++ (codes " at " ++ (place_text at ++ function_text function))))
 
--- `limit: WORD at PLACE`
+-- `CAUSE: WORD at PLACE`
+abbrev pub word_line : List ℕ → List ℕ → ℕ → List ℕ
+word_line cause word at = line (cause ++ (codes ": " ++ (word ++ (codes " at " ++ place_text at))))
+
+-- `limit: WORD at PLACE`, of the outline and of the decoder
 abbrev pub limit_line : LimitWord → ℕ → List ℕ
-limit_line word at = line (codes "limit: " ++ (limit_text word ++ (codes " at " ++ place_text at)))
+limit_line w = word_line (codes "limit") (limit_text w)
+
+abbrev pub bound_line : bounds.LimitWord → ℕ → List ℕ
+bound_line w = word_line (codes "limit") (bound_text w)
+
+-- `malformed: WORD at PLACE`
+abbrev pub malformed_line : DecodeWord → ℕ → List ℕ
+malformed_line w = word_line (codes "malformed") (decode_text w)
+
+-- `invalid: WORD at PLACE`
+abbrev pub invalid_line : ValidWord → ℕ → List ℕ
+invalid_line w = word_line (codes "invalid") (valid_text w)

@@ -1,23 +1,29 @@
--- What a run reports: a text and a status, as a function of the words and the files.
-use Rattle.std.specs.Io.KnownBytes.{Appends}
-use Rattle.std.specs.declared.string.String.{String}
-use Rattle.std.specs.declared.alloc.Global.{Global}
-use Rattle.std.specs.Prelude.{◌≡◌, ◌≤◌, ◌⊎◌, ℕ, map, take, string_bytes, Bool, false, List, [], ◌∷◌, length, Option, Some, None, Result, Ok, Err, nat_lt, if◌then◌else◌, codes}
+-- What a run may report: texts and statuses, by the words and the files.
+use Rattle.std.specs.Prelude.{◌≡◌, ◌<◌, ◌≤◌, ◌⊎◌, ℕ, List, [], ◌∷◌, length, Option, Some, None, if◌then◌else◌, codes}
 use Rattle.std.specs.Str.{bytes_eq}
 use Rattle.wasm_syntax.specs.declared.module.Module.{Module}
 use Rattle.wasm_syntax.specs.declared.module.Marks.{Marks}
-use Rattle.outline_check.specs.declared.notes.Notes.{Notes}
+use Rattle.binary_grammar.specs.declared.fault.DecodeFault.{DecodeFault}
+use Rattle.binary_grammar.specs.declared.fault.DecodeFault.TheVariants as decode
+use Rattle.binary_grammar.specs.Bounds.{the_bounds}
+use Rattle.binary_grammar.specs.ModuleGrammar.{Spells, InLimits}
+use Rattle.binary_grammar.specs.Plans.{Fault}
+use Rattle.wasm_typing.specs.declared.fault.ValidWord.{ValidWord}
+use Rattle.wasm_typing.specs.Valid.{Valid}
+use Rattle.wasm_typing.specs.Faults.{InvalidAt}
+use Rattle.rw_edge.specs.Files.{contents_of}
 use Rattle.outline_check.specs.declared.answer.LimitWord.TheVariants as word
+use Rattle.outline_check.specs.declared.notes.Notes.{Notes}
+use Rattle.outline_check.specs.First.{IsFirst}
 use Rattle.outline_check.specs.Refusals.{Outline}
 use Rattle.outline_check.specs.Refusals as outlines
 use Rattle.outline_check.specs.Outlines.{outline}
-use Rattle.rw_edge.specs.Files.{contents_of}
-use Rattle.first_reader.specs.Trees.{first_module}
 use Rattle.first_reader.specs.ReadingNotes.{first_notes}
+use Rattle.module_listing.specs.Listing.{listing_text}
 use Rattle.verify_command.specs.declared.status.Status.{Status}
 use Rattle.verify_command.specs.declared.status.Status.TheVariants as status
 use Rattle.verify_command.specs.declared.report.Report as reports
-use Rattle.verify_command.specs.Lines.{line, failed_line, limit_line}
+use Rattle.verify_command.specs.Lines.{line, failed_line, limit_line, bound_line, malformed_line, invalid_line}
 
 -- A report is a text and a status.
 pub record Report : Type 0 where
@@ -43,7 +49,22 @@ words_refused = record { text = line (codes "words refused"); status = status.Wo
 abbrev pub nothing_read : Report
 nothing_read = record { text = []; status = status.ReadFault }
 
--- A module that is not of the form First, and notes that are not of the form FirstNotes.
+-- A file that is too long.
+abbrev pub module_too_long : Report
+module_too_long = record { text = limit_line word.Module module_limit; status = status.Limit }
+
+abbrev pub notes_too_long : Report
+notes_too_long = record { text = limit_line word.Notes notes_limit; status = status.Limit }
+
+-- A module that is valid.
+abbrev pub module_valid : Report
+module_valid = record { text = line (codes "valid"); status = status.Good }
+
+-- The listing of a module.
+abbrev pub module_listed : Module → Marks → Report
+module_listed m k = record { text = listing_text m k; status = status.Good }
+
+-- A valid module that is not of the form First, and notes that are not of the form FirstNotes.
 abbrev pub unbuilt_module : Report
 unbuilt_module = record { text = line (codes "unbuilt module"); status = status.Negative }
 
@@ -58,75 +79,96 @@ outlined (outlines.Limit at word) = record { text = limit_line word at; status =
 
 -- The notes, and then the outline.
 abbrev pub noted : Module → Marks → Option Notes → Report
-noted m marks None = unbuilt_notes
-noted m marks (Some notes) = outlined (outline m marks notes)
+noted m k None = unbuilt_notes
+noted m k (Some notes) = outlined (outline m k notes)
 
--- The module, and then the notes.
-abbrev pub read_as : Option (Module × Marks) → List ℕ → Report
-read_as None notes = unbuilt_module
-read_as (Some x) notes = noted x.0 x.1 (first_notes notes)
+-- The bytes' fault: they are malformed, or a limit of the decoder is passed.
+abbrev pub IsFaultReport : DecodeFault → Report → Type 0
+IsFaultReport (decode.Malformed at w) r = r ≡ record { text = malformed_line w at; status = status.Negative }
+IsFaultReport (decode.Limit at w) r = r ≡ record { text = bound_line w at; status = status.Limit }
+IsFaultReport decode.OutOfMemory r = ⊥
 
--- What is said of the bytes of a module and the text of notes.
-unfoldable pub judged : List ℕ → List ℕ → Report
-judged bytes notes = read_as (first_module bytes) notes
+-- The first fault of a module that isn't valid.
+abbrev pub invalid_report : ℕ → ValidWord → Report
+invalid_report at w = record { text = invalid_line w at; status = status.Negative }
 
--- A file is there and is not too long, and then comes what follows.
-abbrev pub with_contents : ℕ → Report → (List ℕ → Report) → Option (List ℕ) → Report
-with_contents limit too_long next None = nothing_read
-with_contents limit too_long next (Some contents) = if nat_lt limit (length contents) then too_long else next contents
+-- What may be reported of something.
+abbrev pub ReportsOf : Type 0 → Type 1
+ReportsOf A = A → Report → Type 0
 
-abbrev pub module_too_long : Report
-module_too_long = record { text = limit_line word.Module module_limit; status = status.Limit }
+-- Of a file: it is missing, or too long, or else what Next says of its contents.
+unfoldable pub OfFile : ℕ → Report → ReportsOf (List ℕ) → ReportsOf (Option (List ℕ))
+OfFile limit too_long Next None r = r ≡ nothing_read
+OfFile limit too_long Next (Some contents) r =
+    ((limit < length contents) × (r ≡ too_long)) ⊎ ((length contents ≤ limit) × Next contents r)
 
-abbrev pub notes_too_long : Report
-notes_too_long = record { text = limit_line word.Notes notes_limit; status = status.Limit }
+-- Of bytes: what Next says of the module and the marks that they spell within the limits, or else their fault.
+unfoldable pub OfBytes : (Module → Marks → Report → Type 0) → ReportsOf (List ℕ)
+OfBytes Next bytes r =
+    ((m : Module) × (k : Marks) × Spells bytes m k × InLimits the_bounds m × Next m k r) ⊎
+    ((fault : DecodeFault) × Fault the_bounds bytes fault × IsFaultReport fault r)
+
+-- Of a module with its marks: what Next says where it is valid, or else its first fault.
+unfoldable pub OfModule : (Module → Marks → Report → Type 0) → Module → Marks → Report → Type 0
+OfModule Next m k r =
+    (Valid m × Next m k r) ⊎ ((at : ℕ) × (w : ValidWord) × InvalidAt m k at w × (r ≡ invalid_report at w))
+
+-- Of a valid module with its marks, for a text of notes: it is not of the form First, or else what the notes and the outline
+-- come to.
+unfoldable pub OfFirst : List ℕ → Module → Marks → Report → Type 0
+OfFirst text m k r = (IsFirst m × (r ≡ noted m k (first_notes text))) ⊎ ((IsFirst m → ⊥) × (r ≡ unbuilt_module))
+
+-- The listed forms of words: `check MODULE`, `show MODULE` and `verify MODULE NOTES`.
+pub data Command : Type 0 where
+  Check : List ℕ → Command
+  Show : List ℕ → Command
+  Verify : List ℕ → List ℕ → Command
+
+abbrev pub command_of : List (List ℕ) → Option Command
+command_of (word ∷ «module» ∷ []) =
+    if bytes_eq word (codes "check") then Some (Check «module») else (if bytes_eq word (codes "show") then Some (Show «module») else None)
+command_of (word ∷ «module» ∷ notes ∷ []) = if bytes_eq word (codes "verify") then Some (Verify «module» notes) else None
+command_of _ = None
+
+-- Files by name: each is its name and its contents.
+abbrev pub Files : Type 0
+Files = List (List ℕ × List ℕ)
+
+-- Whether bytes spell a valid module.
+abbrev pub OfChecked : ReportsOf (List ℕ)
+OfChecked = OfBytes (OfModule (λ m k r. r ≡ module_valid))
+
+-- The listing of the module that bytes spell.
+abbrev pub OfShown : ReportsOf (List ℕ)
+OfShown = OfBytes (λ m k r. r ≡ module_listed m k)
+
+-- Whether the notes verify the module that bytes spell.
+abbrev pub OfJudged : List ℕ → ReportsOf (List ℕ)
+OfJudged bytes text = OfBytes (OfModule (OfFirst text)) bytes
 
 -- The notes file, for a module that was read.
-abbrev pub notes_report : List ℕ → Option (List ℕ) → Report
-notes_report bytes = with_contents notes_limit notes_too_long (judged bytes)
+abbrev pub OfNotes : List ℕ → ReportsOf (Option (List ℕ))
+OfNotes bytes = OfFile notes_limit notes_too_long (OfJudged bytes)
 
--- `verify MODULE NOTES`: the module file and its length, then the notes file and its length, then what they say.
-abbrev pub verify_report : List (List ℕ × List ℕ) → List ℕ → List ℕ → Report
-verify_report files «module» notes = with_contents module_limit module_too_long (λ bytes. notes_report bytes (contents_of files notes)) (contents_of files «module»)
+-- `check MODULE`: the module file and its length, then its bytes, then whether the module is valid.
+abbrev pub OfCheck : Files → List ℕ → Report → Type 0
+OfCheck files «module» = OfFile module_limit module_too_long OfChecked (contents_of files «module»)
 
--- The one listed form of words is `verify MODULE NOTES`.
-abbrev pub is_listed : List (List ℕ) → Bool
-is_listed (word ∷ «module» ∷ notes ∷ []) = bytes_eq word (codes "verify")
-is_listed _ = false
+-- `show MODULE`: the module file and its length, then its bytes.
+abbrev pub OfShow : Files → List ℕ → Report → Type 0
+OfShow files «module» = OfFile module_limit module_too_long OfShown (contents_of files «module»)
 
-abbrev pub listed_report : List (List ℕ × List ℕ) → List (List ℕ) → Report
-listed_report files (word ∷ «module» ∷ notes ∷ []) = verify_report files «module» notes
-listed_report files _ = words_refused
+-- `verify MODULE NOTES`: the module file and its length, then the notes file and its length, then the module's bytes, its
+-- validity and its form, then the notes, then the outline.
+abbrev pub OfVerify : Files → List ℕ → List ℕ → Report → Type 0
+OfVerify files «module» notes = OfFile module_limit module_too_long (λ bytes. OfNotes bytes (contents_of files notes)) (contents_of files «module»)
 
--- The report of the words over the files.
-abbrev pub report : List (List ℕ) → List (List ℕ × List ℕ) → Report
-report words files = if is_listed words then listed_report files words else words_refused
+abbrev pub OfCommand : Files → Option Command → Report → Type 0
+OfCommand files None r = r ≡ words_refused
+OfCommand files (Some (Check «module»)) r = OfCheck files «module» r
+OfCommand files (Some (Show «module»)) r = OfShow files «module» r
+OfCommand files (Some (Verify «module» notes)) r = OfVerify files «module» notes r
 
--- A status that comes with a line.
-abbrev pub IsSpoken : Status → Type 0
-IsSpoken status.Good = Unit {0}
-IsSpoken status.Negative = Unit {0}
-IsSpoken status.Limit = Unit {0}
-IsSpoken _ = ⊥
-
--- A run comes to its report's status, or else memory was wanting, or the outside failed.
-abbrev pub Comes : Status → Status → Type 0 → Type 0 → Type 0
-Comes came wanted read_fault write_fault =
-    (came ≡ wanted) ⊎ ((came ≡ status.OutOfMemory) ⊎ (((came ≡ status.ReadFault) × read_fault) ⊎ ((came ≡ status.WriteFault) × write_fault)))
-
--- A text was written whole with the statuses 0, 1, 2 and 6, a prefix of it with status 4, and nothing with 3 and 5.
-abbrev pub Wrote : Status → List ℕ → Option (List ℕ) → Option (List ℕ) → Type 0
-Wrote status.ReadFault text old new = new ≡ old
-Wrote status.OutOfMemory text old new = new ≡ old
-Wrote status.WriteFault text old new = (n : ℕ) × (n ≤ length text) × Appends old new (take n text)
-Wrote _ text old new = Appends old new text
-
--- The texts of words.
-abbrev pub texts : List (String Global) → List (List ℕ)
-texts words = map string_bytes words
-
--- A status with which nothing is written.
-abbrev pub IsQuiet : Status → Type 0
-IsQuiet status.ReadFault = Unit {0}
-IsQuiet status.OutOfMemory = Unit {0}
-IsQuiet _ = ⊥
+-- The report of the words over the files; there is at most one.
+abbrev pub IsReport : List (List ℕ) → Files → Report → Type 0
+IsReport words files r = OfCommand files (command_of words) r

@@ -1,10 +1,12 @@
 // The lines of a report.
 
 ghost use Rattle.std.specs.Prelude.{◌≡◌, ◌++◌, ◌∷◌, [], ◌/◌, OnOk, IfOk};
-ghost use Rattle.verify_command.specs.Lines.{hex_digit, place_text, reason_text, limit_text, function_text, failed_line, limit_line};
+ghost use Rattle.verify_command.specs.Lines.{hex_digit, place_text, reason_text, limit_text, bound_text, decode_text, valid_text, function_text, failed_line, word_line};
 
+use binary_grammar::DecodeWord;
 use outline_check::{LimitWord, Reason};
 use std::alloc::{AllocError, Global};
+use wasm_validate::ValidWord;
 
 fn hex_digit(n: usize) -> u8
     ensures { result ≡ hex_digit n }
@@ -51,7 +53,8 @@ fn push_reason(alloc: Global, text: &mut Vec<u8>, reason: Reason) -> Result<(), 
     }
 }
 
-fn limit_text(word: LimitWord) -> &'static [u8]
+/// The words of limits.
+pub fn limit_text(word: LimitWord) -> &'static [u8]
     ensures { result.now ≡ limit_text word }
 {
     match word {
@@ -71,6 +74,65 @@ fn limit_text(word: LimitWord) -> &'static [u8]
         LimitWord::Chunks => b"chunks",
         LimitWord::Variables => b"variables",
         LimitWord::Derivation => b"derivation",
+    }
+}
+
+/// The words of the decoder's limits.
+pub fn bound_text(word: binary_grammar::LimitWord) -> &'static [u8]
+    ensures { result.now ≡ bound_text word }
+{
+    match word {
+        binary_grammar::LimitWord::Module => b"module",
+        binary_grammar::LimitWord::Notes => b"notes",
+        binary_grammar::LimitWord::Script => b"script",
+        binary_grammar::LimitWord::Types => b"types",
+        binary_grammar::LimitWord::Imports => b"imports",
+        binary_grammar::LimitWord::Functions => b"functions",
+        binary_grammar::LimitWord::Globals => b"globals",
+        binary_grammar::LimitWord::Params => b"params",
+        binary_grammar::LimitWord::Locals => b"locals",
+        binary_grammar::LimitWord::Nesting => b"nesting",
+        binary_grammar::LimitWord::Nodes => b"nodes",
+        binary_grammar::LimitWord::State => b"state",
+        binary_grammar::LimitWord::Facts => b"facts",
+        binary_grammar::LimitWord::Chunks => b"chunks",
+        binary_grammar::LimitWord::Variables => b"variables",
+        binary_grammar::LimitWord::Derivation => b"derivation",
+    }
+}
+
+/// The words of the decoder's faults.
+pub fn decode_text(word: DecodeWord) -> &'static [u8]
+    ensures { result.now ≡ decode_text word }
+{
+    match word {
+        DecodeWord::End => b"end",
+        DecodeWord::Magic => b"magic",
+        DecodeWord::Byte => b"byte",
+        DecodeWord::Order => b"order",
+        DecodeWord::Size => b"size",
+        DecodeWord::Number => b"number",
+        DecodeWord::Utf8 => b"utf8",
+        DecodeWord::Float => b"float",
+        DecodeWord::Count => b"count",
+    }
+}
+
+/// The words of the validator's faults.
+pub fn valid_text(word: ValidWord) -> &'static [u8]
+    ensures { result.now ≡ valid_text word }
+{
+    match word {
+        ValidWord::WrongType => b"type",
+        ValidWord::Count => b"count",
+        ValidWord::Index => b"index",
+        ValidWord::Limits => b"limits",
+        ValidWord::Const => b"const",
+        ValidWord::Export => b"export",
+        ValidWord::Start => b"start",
+        ValidWord::Label => b"label",
+        ValidWord::Align => b"align",
+        ValidWord::Stack => b"stack",
     }
 }
 
@@ -105,12 +167,13 @@ pub fn failed_line(
     Ok(text)
 }
 
-/// `limit: WORD at PLACE`
-pub fn limit_line(alloc: Global, word: LimitWord, at: usize) -> Result<Vec<u8>, AllocError>
-    ensures { IfOk result (λ text. text.items ≡ limit_line word at) }
+/// `CAUSE: WORD at PLACE`
+pub fn word_line(alloc: Global, cause: &[u8], word: &[u8], at: usize) -> Result<Vec<u8>, AllocError>
+    ensures { IfOk result (λ text. text.items ≡ word_line cause.now word.now at) }
 {
-    let mut text = Vec::from_slice(alloc, b"limit: ")?;
-    text.extend_from_slice(limit_text(word))?;
+    let mut text = Vec::from_slice(alloc, cause)?;
+    text.extend_from_slice(b": ")?;
+    text.extend_from_slice(word)?;
     text.extend_from_slice(b" at ")?;
     push_place(&mut text, at)?;
     text.push(b'\n')?;

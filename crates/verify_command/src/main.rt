@@ -1,10 +1,14 @@
-//! The verifier: `verify MODULE NOTES` says whether the notes are an accepted proof outline of the module.
+//! The verifier: `verify MODULE NOTES` says whether the notes are an accepted proof outline of the module, `check MODULE`
+//! whether a module is valid, and `show MODULE` lists it.
 #![tactic(auto)]
 
+mod commands;
 mod judge;
+mod laws;
 mod line;
 mod report;
 mod run;
+mod stages;
 mod status;
 #[cfg(test)]
 mod tests;

@@ -3,6 +3,7 @@ ghost use Rattle.verify_command.specs.Reports.{seen};
 
 use crate::status::Status;
 use std::alloc::{AllocError, Global};
+use wasm_values::OutOfMemory;
 
 /// What a run writes, and what it comes to.
 #[derive(Drop)]
@@ -14,6 +15,7 @@ pub struct Report {
 /// Why a run has no report.
 #[derive(Clone, Copy, Debug, PartialEq, Eq)]
 pub enum Stop {
+    Words,
     Read,
     Memory,
 }
@@ -28,6 +30,16 @@ impl From<AllocError> for Stop {
     }
 }
 
+impl From<OutOfMemory> for Stop {
+    ghost use Rattle.verify_command.specs.declared.report.Stop.TheVariants.{Memory};
+
+    ghost from_gives = { λ _ stop. stop ≡ Memory };
+
+    fn from(_: OutOfMemory) -> Stop {
+        Stop::Memory
+    }
+}
+
 /// A report of one line that never differs.
 pub fn fixed(alloc: Global, text: &[u8], status: Status) -> Result<Report, AllocError>
     ensures { IfOk result (λ r. seen r ≡ record { text = text.now; status = status }) }
@@ -36,4 +48,14 @@ pub fn fixed(alloc: Global, text: &[u8], status: Status) -> Result<Report, Alloc
         text: Vec::from_slice(alloc, text)?,
         status,
     })
+}
+
+/// A report of what was refused.
+pub fn negative(text: Vec<u8>) -> Report
+    ensures { seen result ≡ record { text = text.items; status = Status.Negative } }
+{
+    Report {
+        text,
+        status: Status::Negative,
+    }
 }

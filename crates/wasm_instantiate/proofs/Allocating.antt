@@ -21,7 +21,7 @@ use Rattle.wasm_syntax.specs.declared.module.Func.{Func as FuncOf}
 use Rattle.wasm_syntax.specs.declared.module.Elem.{Elem}
 use Rattle.wasm_syntax.specs.declared.module.Module.{Module}
 use Rattle.wasm_syntax.specs.Trees.{sequence_of}
-use Rattle.wasm_validate.specs.Valid.{func_import, table_import, memory_import, global_import, type_or_none, type_at, func_types_of, funcs_of, tables_of, memories_of, imported_globals_of, globals_of, context_of, immutable_type, const_type, TypeValid, TableValid, MemoryValid, GlobalValid, ExportValid, ElemValid, FuncValid, ValInRange, SequenceInRange, LimitsInRange, IsWord, Valid}
+use Rattle.wasm_typing.specs.Valid.{func_import, table_import, memory_import, global_import, type_or_none, type_at, func_types_of, funcs_of, tables_of, memories_of, imported_globals_of, globals_of, context_of, immutable_type, const_type, TypeValid, TableValid, MemoryValid, GlobalValid, ExportValid, ElemValid, FuncValid, ValInRange, SequenceInRange, LimitsInRange, IsWord, Valid}
 use Rattle.wasm_store.specs.declared.store.FuncInst.{FuncInst}
 use Rattle.wasm_store.specs.declared.store.TableInst.{TableInst}
 use Rattle.wasm_store.specs.declared.store.MemInst.{MemInst}
@@ -137,7 +137,7 @@ module _ (s : Store) (store : StoreTyped s) (m : Module) (valid : Valid m) (exte
       ∙ two_parts g (map (type_at m.types) indices) (map (type_at m.types) (map (λ (f : FuncOf). f.ty) m.funcs)) (filter_map func_in_extern externs) (range_with_len (length s.funcs) (length m.funcs)) imported defined
 
   -- The types of the globals at the addresses of imports, in the old store.
-  imported_globals_image : map (λ x. Some x) (imported_globals_of m) ≡ map (λ a. option_map (λ (g : GlobalInst). g.ty) (slice_get s.globals a)) (filter_map global_in_extern externs)
+  pub imported_globals_image : map (λ x. Some x) (imported_globals_of m) ≡ map (λ a. option_map (λ (g : GlobalInst). g.ty) (slice_get s.globals a)) (filter_map global_in_extern externs)
   imported_globals_image =
       let g : ℕ → Option GlobalType = λ a. option_map (λ (g : GlobalInst). g.ty) (slice_get s.globals a) in
       imported_parts s m.types global_import global_in_extern g (globals_agree s m.types g (λ a x h. ap (option_map (λ (g : GlobalInst). g.ty)) h)) externs m.imports match.count match.each
@@ -179,7 +179,7 @@ module _ (s : Store) (store : StoreTyped s) (m : Module) (valid : Valid m) (exte
       in
       two_parts g (filter_map (λ (i : Import). memory_wanted i.kind) m.imports) (map (λ _. one) made) (filter_map memory_in_extern externs) (range_with_len (length s.memories) (length m.memories)) imported defined
 
-  tables_length : length (tables_of m) ≡ length (table_addresses s m externs)
+  pub tables_length : length (tables_of m) ≡ length (table_addresses s m externs)
   tables_length =
       let wanted = filter_map-then (λ (i : Import). table_import i.kind) (λ _. one) m.imports in
       let imports = filter_map (λ (i : Import). table_import i.kind) m.imports in
@@ -191,7 +191,7 @@ module _ (s : Store) (store : StoreTyped s) (m : Module) (valid : Valid m) (exte
       length-append imports m.tables ∙ ap (λ n. n + length m.tables) (sym wants) ∙ ap (λ n. length (filter_map (λ (i : Import). table_wanted i.kind) m.imports) + n) (sym makes)
       ∙ sym (length-append (filter_map (λ (i : Import). table_wanted i.kind) m.imports) (map (λ _. one) made)) ∙ long
 
-  memories_length : length (memories_of m) ≡ length (memory_addresses s m externs)
+  pub memories_length : length (memories_of m) ≡ length (memory_addresses s m externs)
   memories_length =
       let wanted = filter_map-then (λ (i : Import). memory_import i.kind) (λ _. one) m.imports in
       let imports = filter_map (λ (i : Import). memory_import i.kind) m.imports in
@@ -233,7 +233,7 @@ module _ (s : Store) (store : StoreTyped s) (m : Module) (valid : Valid m) (exte
   funcs_length =
       sym (length-map (func_types_of m) (type_at m.types)) ∙ image_length (func_type_at (shape_of (allocated s m externs))) (funcs_of m) (func_addresses s m externs) funcs_image
 
-  globals_length : length (globals_of m) ≡ length (global_addresses s m externs)
+  pub globals_length : length (globals_of m) ≡ length (global_addresses s m externs)
   globals_length = image_length (slice_get (shape_of (allocated s m externs)).globals) (globals_of m) (global_addresses s m externs) globals_image
 
   -- The address at an index names something.

@@ -6,8 +6,8 @@ use Rattle.std.proofs.lemmas.Option.{slice_get_within}
 use Rattle.wasm_values.specs.declared.number.Val.{Val}
 use Rattle.wasm_values.specs.Operators.{type_of}
 use Rattle.wasm_syntax.specs.declared.module.FuncType.{FuncType}
-use Rattle.wasm_validate.specs.Typing.{Types}
-use Rattle.wasm_validate.specs.Valid.{ValInRange}
+use Rattle.wasm_typing.specs.Typing.{Types}
+use Rattle.wasm_typing.specs.Valid.{ValInRange}
 use Rattle.wasm_store.specs.declared.store.FuncInst.{FuncInst}
 use Rattle.wasm_store.specs.declared.store.FuncInst.TheVariants.{Code, Host}
 use Rattle.wasm_store.specs.declared.store.TableInst.{TableInst}

@@ -9,7 +9,7 @@ use Rattle.wasm_syntax.specs.declared.module.GlobalType.{GlobalType}
 use Rattle.wasm_syntax.specs.declared.module.Import.{Import}
 use Rattle.wasm_syntax.specs.declared.module.ImportKind.{ImportKind}
 use Rattle.wasm_syntax.specs.declared.module.ImportKind.TheVariants as import
-use Rattle.wasm_validate.specs.Valid.{func_import, table_import, memory_import, global_import, type_or_none, type_at}
+use Rattle.wasm_typing.specs.Valid.{func_import, table_import, memory_import, global_import, type_or_none, type_at}
 use Rattle.wasm_store.specs.declared.store.FuncInst.{FuncInst}
 use Rattle.wasm_store.specs.declared.store.TableInst.{TableInst}
 use Rattle.wasm_store.specs.declared.store.MemInst.{MemInst}

@@ -23,10 +23,10 @@ use Rattle.wasm_instantiate.specs.Instantiation.{value_of_code, offset_of, has_e
 use Rattle.wasm_instantiate.proofs.HostLaws.{shape-with_entries, with_entries_typed}
 use Rattle.wasm_instantiate.proofs.Importing.{get-map-is}
 
-abbrev table_size : TableInst → ℕ
+abbrev pub table_size : TableInst → ℕ
 table_size t = length t.entries
 
-abbrev memory_size : MemInst → ℕ
+abbrev pub memory_size : MemInst → ℕ
 memory_size m = length m.bytes
 
 -- A store is typed, with the shape, the globals and the sizes of another.
@@ -38,15 +38,15 @@ pub record Kept (s t : Store) : Type 0 where
   pub memories : map memory_size t.memories ≡ map memory_size s.memories
 
 -- A size that is known is at least so much.
-abbrev has_size : Option ℕ → ℕ → Bool
+abbrev pub has_size : Option ℕ → ℕ → Bool
 has_size None n = false
 has_size (Some k) n = nat_le n k
 
-entries-size : (o : Option TableInst) (n : ℕ) → has_entries o n ≡ has_size (option_map table_size o) n
+pub entries-size : (o : Option TableInst) (n : ℕ) → has_entries o n ≡ has_size (option_map table_size o) n
 entries-size None n = refl
 entries-size (Some t) n = refl
 
-bytes-size : (o : Option MemInst) (n : ℕ) → has_bytes o n ≡ has_size (option_map memory_size o) n
+pub bytes-size : (o : Option MemInst) (n : ℕ) → has_bytes o n ≡ has_size (option_map memory_size o) n
 bytes-size None n = refl
 bytes-size (Some m) n = refl
 

@@ -7,7 +7,7 @@ use Rattle.wasm_syntax.specs.declared.module.Elem.{Elem}
 use Rattle.wasm_syntax.specs.declared.module.Segment.{Segment}
 use Rattle.wasm_syntax.specs.declared.module.Module.{Module}
 use Rattle.wasm_syntax.specs.Trees.{sequence_of}
-use Rattle.wasm_validate.specs.Valid.{func_types_of, funcs_of, StartValid, ElemValid, ValInRange, IsWord, SequenceInRange, BytesInRange, Valid}
+use Rattle.wasm_typing.specs.Valid.{func_types_of, funcs_of, StartValid, ElemValid, ValInRange, IsWord, SequenceInRange, BytesInRange, Valid}
 use Rattle.wasm_store.specs.declared.store.FuncInst.{FuncInst}
 use Rattle.wasm_store.specs.declared.store.Extern.{Extern}
 use Rattle.wasm_store.specs.declared.store.Store.{Store}

@@ -5,3 +5,10 @@ pub mod Importing
 pub mod Allocating
 pub mod Initializing
 pub mod Instantiating
+pub mod ValueTypes
+pub mod EnteringLemmas
+pub mod BuildingLemmas
+pub mod WritingLemmas
+pub mod StoringLemmas
+pub mod PreparingLemmas
+pub mod StartingLemmas

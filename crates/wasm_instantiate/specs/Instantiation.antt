@@ -16,7 +16,7 @@ use Rattle.wasm_syntax.specs.declared.module.Segment.{Segment}
 use Rattle.wasm_syntax.specs.declared.module.Module.{Module}
 use Rattle.wasm_syntax.specs.Trees as tree
 use Rattle.wasm_syntax.specs.Trees.{Instruction, Sequence, Empty, Then, sequence_of}
-use Rattle.wasm_validate.specs.Valid.{type_at}
+use Rattle.wasm_typing.specs.Valid.{type_at}
 use Rattle.wasm_store.specs.declared.store.FuncInst.{FuncInst}
 use Rattle.wasm_store.specs.declared.store.FuncInst.TheVariants.{Code, Host}
 use Rattle.wasm_store.specs.declared.store.TableInst.{TableInst}

@@ -5,3 +5,6 @@ pub mod Refusals
 pub mod Hosts
 pub mod Sessions
 pub mod Safety
+pub mod Answers
+pub mod Building
+pub mod Putting

@@ -4,7 +4,7 @@ use Rattle.std.specs.Prelude.{◌≡◌, ℕ, ◌+◌, List, Some, slice_get, Al
 use Rattle.wasm_values.specs.declared.number.Val.{Val}
 use Rattle.wasm_syntax.specs.declared.module.FuncType.{FuncType}
 use Rattle.wasm_syntax.specs.declared.module.Module.{Module}
-use Rattle.wasm_validate.specs.Valid.{Valid}
+use Rattle.wasm_typing.specs.Valid.{Valid}
 use Rattle.wasm_store.specs.declared.store.Extern.{Extern}
 use Rattle.wasm_store.specs.Configuration.{Configuration, started}
 use Rattle.wasm_store.specs.Step.{Step}

@@ -4,7 +4,7 @@ ghost use Rattle.std.specs.Prelude.{◌≡◌, ℕ, List, []};
 ghost use Rattle.wasm_values.specs.declared.number.Val.{Val};
 ghost use Rattle.wasm_syntax.specs.declared.module.FuncType.{FuncType};
 ghost use Rattle.wasm_syntax.specs.declared.module.Module.{Module};
-ghost use Rattle.wasm_validate.specs.Valid.{Valid};
+ghost use Rattle.wasm_typing.specs.Valid.{Valid};
 ghost use Rattle.wasm_store.specs.declared.store.Extern.{Extern};
 ghost use Rattle.wasm_store.specs.Configuration.{Configuration, started};
 ghost use Rattle.type_safety.specs.Safety.{Preserves};

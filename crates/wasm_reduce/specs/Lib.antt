@@ -1,1 +1,4 @@
 pub mod Policies
+pub mod Acts
+pub mod Layers
+pub mod Kinds

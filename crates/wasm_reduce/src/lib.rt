@@ -1,7 +1,21 @@
-//! The machine: what one step of a configuration is under a policy.
+//! The machine: one step of a typed configuration, and what it is under a policy.
 #![tactic(auto)]
 
+mod act;
+mod calls;
+mod control;
+mod effect;
+mod find;
+mod frames;
 pub mod laws;
+mod machine;
+mod memory;
+mod moved;
+mod operands;
 mod policy;
+mod reading;
+mod values;
 
+pub use machine::step;
+pub use moved::{Moved, StepFault};
 pub use policy::Policy;

@@ -1,10 +1,3 @@
-pub mod SectionLemmas
-pub mod OperandLemmas
-pub mod ActLemmas
-pub mod WalkLemmas
-pub mod WalkSteps
-pub mod BodyLemmas
 pub mod ValidLemmas
 pub mod PartsLemmas
-pub mod PrefixLemmas
 pub mod RangeLemmas

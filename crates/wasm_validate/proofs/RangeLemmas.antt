@@ -10,10 +10,10 @@ use Rattle.wasm_syntax.specs.FlatForm.{flat_body}
 use Rattle.wasm_syntax.specs.Trees.{Instruction, instruction_of, sequence_of}
 use Rattle.wasm_syntax.specs.Parts.{Part, own, begun, with_instr, turned, closed_part, instr_of}
 use Rattle.wasm_syntax.proofs.TreeLaws.{instruction_of-Block, instruction_of-Loop, instruction_of-If, instruction_of-IfElse}
-use Rattle.wasm_validate.specs.Valid.{InstructionInRange, SequenceInRange}
-use Rattle.wasm_validate.specs.Open.{parts_before}
-use Rattle.wasm_validate.specs.Walks.{then_inner, ItemInRange}
-use Rattle.wasm_validate.proofs.BodyLemmas.{first_parts, next_parts, whole_parts}
+use Rattle.wasm_typing.specs.Valid.{InstructionInRange, SequenceInRange}
+use Rattle.wasm_typing.specs.Open.{parts_before}
+use Rattle.body_check.specs.Walks.{then_inner, ItemInRange}
+use Rattle.body_check.proofs.BodyLemmas.{first_parts, next_parts, whole_parts}
 
 abbrev pub FirstInRange : Option (List Instr) → Type 0
 FirstInRange None = Unit {0}

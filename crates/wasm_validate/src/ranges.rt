@@ -12,8 +12,8 @@ ghost use Rattle.wasm_syntax.specs.declared.module.Elem.{Elem};
 ghost use Rattle.wasm_syntax.specs.declared.module.Segment.{Segment};
 ghost use Rattle.wasm_syntax.specs.FlatForm.{is_simple};
 ghost use Rattle.wasm_syntax.specs.Trees.{instruction_of, sequence_of};
-ghost use Rattle.wasm_validate.specs.Valid.{const_type, IsWord, ValInRange, InstructionInRange, SequenceInRange, LimitsInRange, BytesInRange, ImportInRange, ExportInRange, InRange, GlobalValid, ElemValid, SegmentValid, PartsValid};
-ghost use Rattle.wasm_validate.specs.Walks.{IsOneSimple, ItemInRange};
+ghost use Rattle.wasm_typing.specs.Valid.{const_type, IsWord, ValInRange, InstructionInRange, SequenceInRange, LimitsInRange, BytesInRange, ImportInRange, ExportInRange, InRange, GlobalValid, ElemValid, SegmentValid, PartsValid};
+ghost use Rattle.body_check.specs.Walks.{IsOneSimple, ItemInRange};
 
 use wasm_syntax::{
     Code, Custom, Elem, Export, ExportKind, Flat, Func, Import, ImportKind, Instr, Limits, Module,

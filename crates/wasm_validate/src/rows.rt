@@ -3,16 +3,16 @@
 ghost use Rattle.std.specs.Prelude.{◌≡◌, ◌+◌, length, slice_get, Some, is_some, IsTrue, nat_lt, nat_eq, [], ◌∷◌, if◌then◌else◌};
 ghost use Rattle.std.specs.List.{list_all};
 ghost use Rattle.wasm_syntax.specs.declared.module.Module.{Module};
-ghost use Rattle.wasm_validate.specs.Valid.{const_type, table_import, memory_import};
-ghost use Rattle.wasm_validate.specs.Faults.{first_failing, condition, type_fault, table_fault, memory_fault, import_row, func_fault, global_fault, start_fault, elem_fault, segment_fault, names_one, has_type};
-ghost use Rattle.wasm_validate.specs.Answers.{IsScopeOf};
+ghost use Rattle.wasm_typing.specs.Valid.{const_type, table_import, memory_import};
+ghost use Rattle.wasm_typing.specs.Faults.{first_failing, condition, type_fault, table_fault, memory_fault, import_row, func_fault, global_fault, start_fault, elem_fault, segment_fault, names_one, has_type};
+ghost use Rattle.body_check.specs.Answers.{IsScopeOf};
 
-use crate::fault::ValidWord;
-use crate::scope::Scope;
+use body_check::Scope;
 use wasm_syntax::{
     Elem, ExportKind, Func, FuncType, Global, GlobalType, ImportKind, Instr, Limits, Module,
     Segment,
 };
+use wasm_typing::ValidWord;
 use wasm_values::{Val, ValType};
 
 pub(crate) fn fault_of_type(ty: &FuncType) -> Option<ValidWord>
@@ -103,26 +103,6 @@ pub(crate) fn fault_of_import(
         ImportKind::Table(limits) => fault_of_table(tables == 0, limits),
         ImportKind::Memory(limits) => fault_of_memory(memories == 0, limits),
         ImportKind::Global(_) => None,
-    }
-}
-
-/// How many tables an import is.
-pub(crate) fn table_count(kind: &ImportKind) -> usize
-    ensures { result ≡ (if is_some (table_import kind.now) then 1 else 0) }
-{
-    match kind {
-        ImportKind::Table(_) => 1,
-        _ => 0,
-    }
-}
-
-/// How many memories an import is.
-pub(crate) fn memory_count(kind: &ImportKind) -> usize
-    ensures { result ≡ (if is_some (memory_import kind.now) then 1 else 0) }
-{
-    match kind {
-        ImportKind::Memory(_) => 1,
-        _ => 0,
     }
 }
 

@@ -4,16 +4,16 @@ ghost use Rattle.std.specs.Prelude.{◌≡◌, ◌+◌, ◌++◌, [], ◌∷◌,
 ghost use Rattle.std.specs.List.{filter_map, list_any};
 ghost use Rattle.std.specs.Str.{bytes_eq};
 ghost use Rattle.wasm_syntax.specs.declared.module.Import.{Import};
-ghost use Rattle.wasm_validate.specs.Valid.{table_import, memory_import};
-ghost use Rattle.wasm_validate.specs.Faults.{type_fault, func_fault, import_fault, module_table_fault, module_memory_fault, global_fault, start_fault, elem_fault, segment_fault, export_fault, export_row, NoFault, FirstFault, StartFault};
-ghost use Rattle.wasm_validate.specs.Answers.{Answers, IsScopeOf, texts_of};
+ghost use Rattle.wasm_typing.specs.Valid.{table_import, memory_import};
+ghost use Rattle.wasm_typing.specs.Faults.{type_fault, func_fault, import_fault, module_table_fault, module_memory_fault, global_fault, start_fault, elem_fault, segment_fault, export_fault, export_row, NoFault, FirstFault, StartFault};
+ghost use Rattle.body_check.specs.Answers.{Answers, IsScopeOf, texts_of};
 
-use crate::fault::{ValidFault, ValidWord};
 use crate::rows;
-use crate::scope::Scope;
+use body_check::{Scope, memory_count, table_count};
 use indexmap::IndexSet;
 use std::alloc::Global;
 use wasm_syntax::{Export, FuncType, Module};
+use wasm_typing::{ValidFault, ValidWord};
 
 pub(crate) fn check_types(types: &[FuncType], places: &[usize]) -> Result<(), ValidFault>
     requires { length places.now ≡ length types.now }
@@ -43,8 +43,8 @@ pub(crate) fn check_imports(module: &Module, places: &[usize]) -> Result<(), Val
                 word,
             });
         }
-        tables += rows::table_count(&import.kind);
-        memories += rows::memory_count(&import.kind);
+        tables += table_count(&import.kind);
+        memories += memory_count(&import.kind);
     }
     Ok(())
 }

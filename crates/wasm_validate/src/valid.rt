@@ -1,14 +1,14 @@
 ghost use Rattle.std.specs.Prelude.{◌≡◌};
-ghost use Rattle.wasm_validate.specs.Valid.{Valid};
-ghost use Rattle.wasm_validate.specs.Faults.{Marked, InvalidAt};
-ghost use Rattle.wasm_validate.specs.Answers.{Answers};
+ghost use Rattle.wasm_typing.specs.Valid.{Valid};
+ghost use Rattle.wasm_typing.specs.Faults.{Marked, InvalidAt};
+ghost use Rattle.body_check.specs.Answers.{Answers};
 
 use crate::check::check_module;
-use crate::fault::ValidFault;
 use crate::ranges::read_numbers;
 use std::alloc::Global;
 use std::marker::Model;
 use wasm_syntax::{Marks, Module};
+use wasm_typing::ValidFault;
 
 /// A module that is valid by its type. Contracts see the module.
 #[derive(Debug, Drop)]
@@ -19,7 +19,7 @@ pub struct ValidModule {
 impl Model for ValidModule {
     ghost use Rattle.wasm_syntax.specs.declared.module.Module.{Module};
     ghost use Rattle.wasm_syntax.specs.contracts.module.Module as of_module;
-    ghost use Rattle.wasm_validate.specs.Valid.{Valid};
+    ghost use Rattle.wasm_typing.specs.Valid.{Valid};
 
     ghost Value = { Module };
 

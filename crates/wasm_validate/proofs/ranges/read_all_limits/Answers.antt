@@ -1,7 +1,7 @@
 use Rattle.std.proofs.Common.{get_or, None, refl, sym}
 use Rattle.wasm_syntax.specs.declared.module.Limits.{Limits}
-use Rattle.wasm_validate.specs.Valid.{LimitsInRange}
-use Rattle.wasm_validate.proofs.SectionLemmas.{each_more_at, each_all}
+use Rattle.wasm_typing.specs.Valid.{LimitsInRange}
+use Rattle.body_check.proofs.SectionLemmas.{each_more_at, each_all}
 use Rattle.wasm_validate.proofs.ranges.read_all_limits.Goals as goal
 
 pub loop-one-preserved : goal.loop-one-preserved

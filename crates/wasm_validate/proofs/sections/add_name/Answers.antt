@@ -1,4 +1,4 @@
-use Rattle.wasm_validate.proofs.SectionLemmas.{name_added}
+use Rattle.body_check.proofs.SectionLemmas.{name_added}
 use Rattle.wasm_validate.proofs.sections.add_name.Goals as goal
 
 pub returns-in-Ok : goal.returns-in-Ok

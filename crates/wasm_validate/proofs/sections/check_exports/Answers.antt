@@ -1,8 +1,8 @@
 use Rattle.std.proofs.Common.{ap, ◌∙◌}
 use Rattle.wasm_syntax.specs.declared.module.Export.{Export}
-use Rattle.wasm_validate.specs.Answers.{texts_of}
-use Rattle.wasm_validate.specs.Faults.{export_fault, export_row}
-use Rattle.wasm_validate.proofs.SectionLemmas.{none_more_read, none_at_end, first_fault_read, names_more}
+use Rattle.body_check.specs.Answers.{texts_of}
+use Rattle.wasm_typing.specs.Faults.{export_fault, export_row}
+use Rattle.body_check.proofs.SectionLemmas.{none_more_read, none_at_end, first_fault_read, names_more}
 use Rattle.wasm_validate.proofs.sections.check_exports.Goals as goal
 
 pub loop-n-preserved : goal.loop-n-preserved

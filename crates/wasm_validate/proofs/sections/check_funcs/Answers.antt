@@ -1,5 +1,5 @@
-use Rattle.wasm_validate.specs.Faults.{func_fault}
-use Rattle.wasm_validate.proofs.SectionLemmas.{none_more_read, none_at_end, first_fault_read}
+use Rattle.wasm_typing.specs.Faults.{func_fault}
+use Rattle.body_check.proofs.SectionLemmas.{none_more_read, none_at_end, first_fault_read}
 use Rattle.wasm_validate.proofs.sections.check_funcs.Goals as goal
 
 pub loop-n-preserved : goal.loop-n-preserved

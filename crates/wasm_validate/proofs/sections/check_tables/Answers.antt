@@ -1,7 +1,7 @@
 use Rattle.std.proofs.Common.{ap, ◌∙◌, ◌+◌, nat_eq, get_or, None}
 use Rattle.wasm_syntax.specs.declared.module.Limits.{Limits}
-use Rattle.wasm_validate.specs.Faults.{module_table_fault, table_fault}
-use Rattle.wasm_validate.proofs.SectionLemmas.{none_more_at, none_at_end}
+use Rattle.wasm_typing.specs.Faults.{module_table_fault, table_fault}
+use Rattle.body_check.proofs.SectionLemmas.{none_more_at, none_at_end}
 use Rattle.wasm_validate.proofs.sections.check_tables.Goals as goal
 
 pub loop-n-preserved : goal.loop-n-preserved

@@ -1,5 +1,5 @@
-use Rattle.wasm_validate.specs.Faults.{module_table_fault}
-use Rattle.wasm_validate.proofs.SectionLemmas.{NoneBefore}
+use Rattle.wasm_typing.specs.Faults.{module_table_fault}
+use Rattle.body_check.proofs.SectionLemmas.{NoneBefore}
 use Rattle.wasm_validate.proofs.sections.check_tables.Given as goal
 
 abbrev pub invariant-loop-n : goal.invariant-loop-n

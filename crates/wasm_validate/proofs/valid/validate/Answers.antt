@@ -1,6 +1,6 @@
 use Rattle.std.proofs.Common.{◌≡◌, refl}
 use Rattle.wasm_syntax.specs.declared.module.Module.{Module}
-use Rattle.wasm_validate.specs.Valid.{Valid}
+use Rattle.wasm_typing.specs.Valid.{Valid}
 use Rattle.wasm_validate.proofs.PartsLemmas.{parts_valid, refusal}
 use Rattle.wasm_validate.proofs.valid.validate.Goals as goal
 

@@ -1,0 +1,18 @@
+use Rattle.std.proofs.Common.{refl, sym, subst}
+use Rattle.body_check.specs.declared.walk.Walk.{Walk}
+use Rattle.wasm_typing.specs.Typing.{Types}
+use Rattle.body_check.specs.Operands.{Are}
+use Rattle.body_check.proofs.WalkSteps.{turns, turns_not}
+use Rattle.body_check.proofs.walk.Walk.turn.Goals as goal
+
+pub returns-then-not-finish : goal.returns-then-not-finish
+returns-then-not-finish c =
+    λ c2 ps e h t. let A : Types → Type 0 = λ ts. Are c.args.self.now.operands ts in turns_not c2 c.args.self.now c.in-Some.open c.pop.new.self.items ps c.in-Some.ensures.items (λ a. c.if-not-finish.ensures.no refl (subst A (sym (c.results_of.ensures c2)) a)) h t
+
+pub returns-in_ok-push_open-in-Some : goal.returns-in_ok-push_open-in-Some
+returns-in_ok-push_open-in-Some c =
+    λ c2 ps e h.
+    let after : Walk = record { operands = c.new.result; opens = c.push_open.new.opens; labels = c.args.self.now.labels } in
+    let A : Types → Type 0 = λ ts. Are c.args.self.now.operands ts in
+    turns c2 c.args.self.now after c.in-Some.open c.pop.new.self.items ps c.in-Some.ensures.items c.in_ok-push_open-in-Some.ensures refl
+    (subst A (c.results_of.ensures c2) (c.if-not-finish.ensures.yes refl)) c.new.ensures.none h

@@ -1,0 +1,254 @@
+// What an instruction that holds no others does to the operands, where its other needs are met.
+
+ghost use Rattle.std.specs.Prelude.{◌≡◌, [], ◌∷◌, ◌++◌, None, IfOk, IsTrue, ◌==◌, reverse, length};
+ghost use Rattle.wasm_values.specs.Operators.{operand_type, result_type, num_operands, is_test, type_of};
+ghost use Rattle.wasm_syntax.specs.FlatForm.{is_simple};
+ghost use Rattle.wasm_typing.specs.Typing.{Types, types_of, num_takes, load_type, store_type, Turns, Takes};
+ghost use Rattle.body_check.specs.Operands.{Are, Goes};
+ghost use Rattle.body_check.specs.Steps.{context_in, AreNames, labels_in, is_variable, is_transfer, IsReady, Acts, Steps};
+
+use crate::names::{self, Names};
+use crate::needs::first_need;
+use crate::operands::Operands;
+use wasm_syntax::{Instr, LoadOp, Plain, StoreOp};
+use wasm_typing::ValidWord;
+use wasm_values::{IntOp, NumOp, OutOfMemory, Val, ValType};
+
+fn act_plain(
+    operands: &mut Operands,
+    names: &Names<'_>,
+    labels: &[Option<ValType>],
+    op: Plain,
+) -> Result<bool, OutOfMemory>
+    requires names { AreNames names.now }
+    requires ready { IsReady (context_in names.now) (labels_in labels.now) (Instr.Plain op) }
+    ensures { Acts result (Are operands.old) (Are operands.new) (context_in names.now) (labels_in labels.now) (Instr.Plain op) }
+{
+    match op {
+        Plain::Unreachable => {
+            operands.die();
+            Ok(true)
+        }
+        Plain::Nop => Ok(true),
+        Plain::Return => Ok(operands.leave_with(names.results)),
+        Plain::Drop => Ok(operands.drop_one()),
+        Plain::Select => operands.select(),
+        Plain::MemorySize => operands.turn(&[], &[ValType::I32]),
+        Plain::MemoryGrow => operands.turn(&[ValType::I32], &[ValType::I32]),
+    }
+}
+
+fn act_variable(
+    operands: &mut Operands,
+    names: &Names<'_>,
+    labels: &[Option<ValType>],
+    instr: &Instr,
+) -> Result<bool, OutOfMemory>
+    requires names { AreNames names.now }
+    requires kind { IsTrue (is_variable instr.now) }
+    requires ready { IsReady (context_in names.now) (labels_in labels.now) instr.now }
+    ensures { Acts result (Are operands.old) (Are operands.new) (context_in names.now) (labels_in labels.now) instr.now }
+{
+    match instr {
+        Instr::LocalGet(x) => match names::local_type(names, *x) {
+            Some(ty) => operands.turn(&[], &[ty]),
+            None => Ok(false),
+        },
+        Instr::LocalSet(x) => match names::local_type(names, *x) {
+            Some(ty) => operands.turn(&[ty], &[]),
+            None => Ok(false),
+        },
+        Instr::LocalTee(x) => match names::local_type(names, *x) {
+            Some(ty) => operands.turn(&[ty], &[ty]),
+            None => Ok(false),
+        },
+        Instr::GlobalGet(x) => match names::global_type(names, *x) {
+            Some(ty) => operands.turn(&[], &[ty.value]),
+            None => Ok(false),
+        },
+        Instr::GlobalSet(x) => match names::global_type(names, *x) {
+            Some(ty) => operands.turn(&[ty.value], &[]),
+            None => Ok(false),
+        },
+        _ => unreachable!(),
+    }
+}
+
+/// Whether an operator takes one operand.
+fn is_unary(op: IntOp) -> bool
+    ensures { result ≡ (num_operands (NumOp.W32 op) == 1) }
+{
+    match op {
+        IntOp::Eqz | IntOp::Clz | IntOp::Ctz | IntOp::Popcnt => true,
+        _ => false,
+    }
+}
+
+/// Whether an operator is a test or a comparison.
+fn gives_truth(op: IntOp) -> bool
+    ensures { result ≡ is_test op }
+{
+    match op {
+        IntOp::Eqz | IntOp::Eq | IntOp::Ne | IntOp::LtS | IntOp::LtU | IntOp::GtS => true,
+        IntOp::GtU | IntOp::LeS | IntOp::LeU | IntOp::GeS | IntOp::GeU => true,
+        _ => false,
+    }
+}
+
+fn act_num(operands: &mut Operands, op: NumOp) -> Result<bool, OutOfMemory>
+    ensures { IfOk result (λ went. Goes went (Are operands.old) (Are operands.new) (Turns (num_takes op) (result_type op ∷ []))) }
+{
+    let (ty, is_one, gives) = match op {
+        NumOp::W32(op) => (ValType::I32, is_unary(op), ValType::I32),
+        NumOp::W64(op) => (
+            ValType::I64,
+            is_unary(op),
+            if gives_truth(op) {
+                ValType::I32
+            } else {
+                ValType::I64
+            },
+        ),
+        NumOp::Wrap => (ValType::I64, true, ValType::I32),
+        NumOp::ExtendS | NumOp::ExtendU => (ValType::I32, true, ValType::I64),
+    };
+    if is_one {
+        operands.turn(&[ty], &[gives])
+    } else {
+        operands.turn(&[ty, ty], &[gives])
+    }
+}
+
+fn type_of_load(op: LoadOp) -> ValType
+    ensures { result ≡ load_type op }
+{
+    match op {
+        LoadOp::I32Load
+        | LoadOp::I32Load8S
+        | LoadOp::I32Load8U
+        | LoadOp::I32Load16S
+        | LoadOp::I32Load16U => ValType::I32,
+        _ => ValType::I64,
+    }
+}
+
+fn type_of_store(op: StoreOp) -> ValType
+    ensures { result ≡ store_type op }
+{
+    match op {
+        StoreOp::I32Store | StoreOp::I32Store8 | StoreOp::I32Store16 => ValType::I32,
+        _ => ValType::I64,
+    }
+}
+
+fn type_of_value(value: Val) -> ValType
+    ensures { result ≡ type_of value }
+{
+    match value {
+        Val::I32(_) => ValType::I32,
+        Val::I64(_) => ValType::I64,
+    }
+}
+
+/// An operand of type i32 and operands of these types become operands of others, if they are there.
+fn turn_over(
+    operands: &mut Operands,
+    takes: &[ValType],
+    gives: &[ValType],
+) -> Result<bool, OutOfMemory>
+    ensures { IfOk result (λ went. Goes went (Are operands.old) (Are operands.new) (Turns (ValType.I32 ∷ reverse takes.now) (reverse gives.now))) }
+{
+    if !operands.take(ValType::I32) {
+        return Ok(false);
+    }
+    operands.turn(takes, gives)
+}
+
+fn act_transfer(
+    operands: &mut Operands,
+    names: &Names<'_>,
+    labels: &[Option<ValType>],
+    instr: &Instr,
+) -> Result<bool, OutOfMemory>
+    requires names { AreNames names.now }
+    requires kind { IsTrue (is_transfer instr.now) }
+    requires ready { IsReady (context_in names.now) (labels_in labels.now) instr.now }
+    ensures { Acts result (Are operands.old) (Are operands.new) (context_in names.now) (labels_in labels.now) instr.now }
+{
+    match instr {
+        Instr::Br(l) => match names::label_at(labels, *l) {
+            Some(ty) => Ok(operands.leave_with(ty)),
+            None => Ok(false),
+        },
+        Instr::BrIf(l) => match names::label_at(labels, *l) {
+            Some(ty) => operands.keep_with(ty),
+            None => Ok(false),
+        },
+        Instr::BrTable(_, l) => match names::label_at(labels, *l) {
+            Some(ty) => Ok(operands.choose_with(ty)),
+            None => Ok(false),
+        },
+        Instr::Call(f) => match names::func_type(names, *f) {
+            Some(ty) => operands.turn(ty.params.as_slice(), ty.results.as_slice()),
+            None => Ok(false),
+        },
+        Instr::CallIndirect(t) => match names::numbered_type(names, *t) {
+            Some(ty) => turn_over(operands, ty.params.as_slice(), ty.results.as_slice()),
+            None => Ok(false),
+        },
+        _ => unreachable!(),
+    }
+}
+
+/// What an instruction does to the operands, where its other needs are met. It tells whether they were there.
+fn act(
+    operands: &mut Operands,
+    names: &Names<'_>,
+    labels: &[Option<ValType>],
+    instr: &Instr,
+) -> Result<bool, OutOfMemory>
+    requires names { AreNames names.now }
+    requires simple { IsTrue (is_simple instr.now) }
+    requires ready { IsReady (context_in names.now) (labels_in labels.now) instr.now }
+    ensures { Acts result (Are operands.old) (Are operands.new) (context_in names.now) (labels_in labels.now) instr.now }
+{
+    match instr {
+        Instr::Plain(op) => act_plain(operands, names, labels, *op),
+        Instr::Num(op) => act_num(operands, *op),
+        Instr::Const(value) => operands.turn(&[], &[type_of_value(*value)]),
+        Instr::Load(op, _, _) => operands.turn(&[ValType::I32], &[type_of_load(*op)]),
+        Instr::Store(op, _, _) => operands.turn(&[ValType::I32, type_of_store(*op)], &[]),
+        Instr::LocalGet(_) | Instr::LocalSet(_) | Instr::LocalTee(_) => act_variable(
+            operands, names, labels, instr,
+        ),
+        Instr::GlobalGet(_) | Instr::GlobalSet(_) => act_variable(operands, names, labels, instr),
+        Instr::Br(_) | Instr::BrIf(_) | Instr::BrTable(_, _) => act_transfer(
+            operands, names, labels, instr,
+        ),
+        Instr::Call(_) | Instr::CallIndirect(_) => act_transfer(operands, names, labels, instr),
+        Instr::Block(_, _) | Instr::Loop(_, _) | Instr::If(_, _, _) => unreachable!(),
+    }
+}
+
+/// One instruction that holds no others: its word, if it is at fault.
+pub(crate) fn step(
+    operands: &mut Operands,
+    names: &Names<'_>,
+    labels: &[Option<ValType>],
+    instr: &Instr,
+) -> Result<Option<ValidWord>, OutOfMemory>
+    requires names { AreNames names.now }
+    requires simple { IsTrue (is_simple instr.now) }
+    ensures { IfOk result (λ fault. Steps fault (Are operands.old) (Are operands.new) (context_in names.now) (labels_in labels.now) instr.now) }
+{
+    match first_need(names, labels, instr) {
+        Some(word) => Ok(Some(word)),
+        None => {
+            if act(operands, names, labels, instr)? {
+                Ok(None)
+            } else {
+                Ok(Some(ValidWord::Stack))
+            }
+        }
+    }
+}

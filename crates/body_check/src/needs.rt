@@ -1,0 +1,167 @@
+// What an instruction needs beside its operands.
+
+ghost use Rattle.std.specs.Prelude.{◌≡◌, ◌≤◌, ◌^◌, [], ◌∷◌, nat_le, nat_lt, is_some, slice_get, length};
+ghost use Rattle.std.specs.List.{list_all};
+ghost use Rattle.wasm_typing.specs.Typing.{types_of, load_width, store_width};
+ghost use Rattle.wasm_typing.specs.Faults.{condition, first_failing, conditions, same_types, are_targets, is_label_of, is_mutable};
+ghost use Rattle.body_check.specs.Steps.{context_in, AreNames, labels_in};
+
+use crate::names::{self, Names};
+use wasm_syntax::{Instr, LoadOp, Plain, StoreOp};
+use wasm_typing::ValidWord;
+use wasm_values::ValType;
+
+fn width_of_load(op: LoadOp) -> u32
+    ensures value { result ≡ load_width op }
+    ensures small { result ≤ 8 }
+{
+    match op {
+        LoadOp::I32Load8S | LoadOp::I32Load8U | LoadOp::I64Load8S | LoadOp::I64Load8U => 1,
+        LoadOp::I32Load16S | LoadOp::I32Load16U | LoadOp::I64Load16S | LoadOp::I64Load16U => 2,
+        LoadOp::I32Load | LoadOp::I64Load32S | LoadOp::I64Load32U => 4,
+        LoadOp::I64Load => 8,
+    }
+}
+
+fn width_of_store(op: StoreOp) -> u32
+    ensures value { result ≡ store_width op }
+    ensures small { result ≤ 8 }
+{
+    match op {
+        StoreOp::I32Store8 | StoreOp::I64Store8 => 1,
+        StoreOp::I32Store16 | StoreOp::I64Store16 => 2,
+        StoreOp::I32Store | StoreOp::I64Store32 => 4,
+        StoreOp::I64Store => 8,
+    }
+}
+
+/// Whether an alignment, by its exponent, is at most an access width.
+fn is_aligned(align: u32, width: u32) -> bool
+    requires { width ≤ 8 }
+    ensures { result ≡ nat_le (2 ^ align) width }
+{
+    align <= 3 && 1u32 << align <= width
+}
+
+fn is_same(a: Option<ValType>, b: Option<ValType>) -> bool
+    ensures { result ≡ same_types (types_of a) (types_of b) }
+{
+    match (a, b) {
+        (None, None)
+        | (Some(ValType::I32), Some(ValType::I32))
+        | (Some(ValType::I64), Some(ValType::I64)) => true,
+        _ => false,
+    }
+}
+
+/// Whether a branch to a label takes this.
+fn is_label(labels: &[Option<ValType>], l: u32, wanted: Option<ValType>) -> bool
+    ensures { result ≡ is_label_of (slice_get (labels_in labels.now) l) (types_of wanted) }
+{
+    match names::label_at(labels, l) {
+        Some(label) => is_same(label, wanted),
+        None => false,
+    }
+}
+
+/// Whether a branch to each of these labels takes what one to the last does.
+fn have_one_type(labels: &[Option<ValType>], targets: &[u32], last: u32) -> bool
+    ensures { result ≡ are_targets (labels_in labels.now) targets.now (slice_get (labels_in labels.now) last) }
+{
+    match names::label_at(labels, last) {
+        Some(wanted) => all_labels(labels, targets, wanted),
+        None => false,
+    }
+}
+
+fn all_labels(labels: &[Option<ValType>], targets: &[u32], wanted: Option<ValType>) -> bool
+    ensures { result ≡ list_all (λ l. is_label_of (slice_get (labels_in labels.now) l) (types_of wanted)) targets.now }
+{
+    for l in targets {
+        if !is_label(labels, *l, wanted) {
+            return false;
+        }
+    }
+    true
+}
+
+fn index_unless(is_there: bool) -> Option<ValidWord>
+    ensures { result ≡ first_failing (condition is_there ValidWord.Index ∷ []) }
+{
+    if is_there {
+        None
+    } else {
+        Some(ValidWord::Index)
+    }
+}
+
+fn align_fault(names: &Names<'_>, align: u32, width: u32) -> Option<ValidWord>
+    requires names { AreNames names.now }
+    requires small { width ≤ 8 }
+    ensures { result ≡ first_failing (condition (nat_lt 0 (length (context_in names.now).memories)) ValidWord.Index ∷ condition (nat_le (2 ^ align) width) ValidWord.Align ∷ []) }
+{
+    if names.scope.memories == 0 {
+        return Some(ValidWord::Index);
+    }
+    if is_aligned(align, width) {
+        None
+    } else {
+        Some(ValidWord::Align)
+    }
+}
+
+fn set_fault(names: &Names<'_>, x: u32) -> Option<ValidWord>
+    requires { AreNames names.now }
+    ensures { result ≡ first_failing (condition (is_some (slice_get (context_in names.now).globals x)) ValidWord.Index ∷ condition (is_mutable (slice_get (context_in names.now).globals x)) ValidWord.WrongType ∷ []) }
+{
+    match names.scope.globals.get(x as usize) {
+        Some(global) => {
+            if global.mutable {
+                None
+            } else {
+                Some(ValidWord::WrongType)
+            }
+        }
+        None => Some(ValidWord::Index),
+    }
+}
+
+/// The first need of an instruction that isn't met, as its word.
+pub(crate) fn first_need(
+    names: &Names<'_>,
+    labels: &[Option<ValType>],
+    instr: &Instr,
+) -> Option<ValidWord>
+    requires { AreNames names.now }
+    ensures { result ≡ first_failing (conditions (context_in names.now) (labels_in labels.now) instr.now) }
+{
+    match instr {
+        Instr::Plain(Plain::MemorySize) | Instr::Plain(Plain::MemoryGrow) => index_unless(
+            names.scope.memories > 0,
+        ),
+        Instr::LocalGet(x) | Instr::LocalSet(x) | Instr::LocalTee(x) => index_unless(
+            names::local_type(names, *x).is_some(),
+        ),
+        Instr::GlobalGet(x) => index_unless(names.scope.globals.get(*x as usize).is_some()),
+        Instr::GlobalSet(x) => set_fault(names, *x),
+        Instr::Load(op, align, _) => align_fault(names, *align, width_of_load(*op)),
+        Instr::Store(op, align, _) => align_fault(names, *align, width_of_store(*op)),
+        Instr::Br(l) | Instr::BrIf(l) => label_unless(names::label_at(labels, *l).is_some()),
+        Instr::BrTable(ls, l) => label_unless(have_one_type(labels, ls.as_slice(), *l)),
+        Instr::Call(f) => index_unless(names::func_type(names, *f).is_some()),
+        Instr::CallIndirect(t) => index_unless(
+            names.scope.tables > 0 && names.whole.types.as_slice().get(*t as usize).is_some(),
+        ),
+        _ => None,
+    }
+}
+
+fn label_unless(is_there: bool) -> Option<ValidWord>
+    ensures { result ≡ first_failing (condition is_there ValidWord.Label ∷ []) }
+{
+    if is_there {
+        None
+    } else {
+        Some(ValidWord::Label)
+    }
+}

@@ -1,0 +1,222 @@
+// The walk over a body, forwards and once.
+
+ghost use Rattle.std.specs.Prelude.{◌≡◌, [], ◌∷◌, ◌++◌, true, false, Some, None, List, IfOk, OnOk};
+ghost use Rattle.wasm_syntax.specs.Parts.{Part, own};
+ghost use Rattle.wasm_typing.specs.Typing.{Types, Context, types_of};
+ghost use Rattle.wasm_typing.specs.Open.{label_of, part_results, before_part};
+ghost use Rattle.body_check.specs.Operands.{Are, Exactly};
+ghost use Rattle.body_check.specs.Steps.{context_in, AreNames};
+ghost use Rattle.body_check.specs.Walks.{IsAt, Walked, Begins, Leads, MayEnd, IsOneSimple};
+
+use crate::instrs::step;
+use crate::names::Names;
+use crate::operands::Operands;
+use smallvec::SmallVec;
+use std::alloc::Global;
+use wasm_syntax::{Flat, Head};
+use wasm_typing::ValidWord;
+use wasm_values::{OutOfMemory, ValType};
+
+/// A block that is open, with the operands below it. `turned` tells that its `else` was passed.
+#[derive(Drop)]
+pub struct Open {
+    pub head: Head,
+    pub turned: bool,
+    pub below: Operands,
+}
+
+/// Where a walk stands: the operands of the innermost open block, the open blocks, and what a branch to each label takes,
+/// the function's own label first.
+#[derive(Drop)]
+pub struct Walk {
+    pub operands: Operands,
+    pub opens: Vec<Open>,
+    pub labels: SmallVec<Option<ValType>, 8>,
+}
+
+/// The results of a block.
+fn results_of(head: Head) -> Option<ValType>
+    ensures { (c : Context) → types_of result ≡ part_results c (Some head) }
+{
+    match head {
+        Head::Block(ty) | Head::Loop(ty) | Head::If(ty) => ty,
+    }
+}
+
+/// What a branch to a block's label takes.
+fn label_type(head: Head) -> Option<ValType>
+    ensures { (c : Context) → types_of result ≡ label_of c (Some head) }
+{
+    match head {
+        Head::Block(ty) | Head::If(ty) => ty,
+        Head::Loop(_) => None,
+    }
+}
+
+/// Whether a block may end: an `if` without `else` has no result.
+fn may_end(head: Head, turned: bool) -> bool
+    ensures yes { result ≡ true → MayEnd head turned }
+    ensures no { result ≡ false → MayEnd head turned → ⊥ }
+{
+    match head {
+        Head::If(Some(_)) => turned,
+        _ => true,
+    }
+}
+
+/// Takes the choice of an `if`, if it is there; other blocks take none.
+fn take_choice(operands: &mut Operands, head: Head) -> bool
+    ensures yes { result ≡ true → Exactly (Are operands.new) (λ ts. Are operands.old (before_part (Some head) ts)) }
+    ensures no { result ≡ false → (ts : Types) → Are operands.old (before_part (Some head) ts) → ⊥ }
+{
+    match head {
+        Head::If(_) => operands.take(ValType::I32),
+        Head::Block(_) | Head::Loop(_) => true,
+    }
+}
+
+fn push_label(
+    labels: &mut SmallVec<Option<ValType>, 8>,
+    label: Option<ValType>,
+) -> Result<(), OutOfMemory>
+    ensures { OnOk result (labels.new.items ≡ labels.old.items ++ label ∷ []) }
+{
+    match labels.push(label) {
+        Ok(()) => Ok(()),
+        Err(_) => Err(OutOfMemory),
+    }
+}
+
+fn push_open(opens: &mut Vec<Open>, block: Open) -> Result<(), OutOfMemory>
+    ensures { OnOk result (opens.new.items ≡ opens.old.items ++ block ∷ []) }
+{
+    match opens.push(block) {
+        Ok(()) => Ok(()),
+        Err(_) => Err(OutOfMemory),
+    }
+}
+
+impl Walk {
+    /// At the head of a body with these results.
+    pub fn new(alloc: Global, results: Option<ValType>) -> Result<Walk, OutOfMemory>
+        ensures { IfOk result (λ w. (c : Context) → types_of results ≡ c.results → IsAt c w (own [] ∷ [])) }
+    {
+        let mut labels = SmallVec::new(alloc);
+        match labels.push(results) {
+            Ok(()) => Ok(Walk {
+                operands: Operands::new(alloc),
+                opens: Vec::new(alloc),
+                labels,
+            }),
+            Err(_) => Err(OutOfMemory),
+        }
+    }
+
+    /// Opens a block, or tells that its choice isn't there.
+    fn begin(&mut self, alloc: Global, head: Head) -> Result<bool, OutOfMemory>
+        ensures { IfOk result (λ began. (c : Context) (ps : List Part) → IsAt c self.old ps → Begins began c self.new ps head) }
+    {
+        if !take_choice(&mut self.operands, head) {
+            return Ok(false);
+        }
+        push_label(&mut self.labels, label_type(head))?;
+        let below = std::mem::replace(&mut self.operands, Operands::new(alloc));
+        let open = Open {
+            head,
+            turned: false,
+            below,
+        };
+        push_open(&mut self.opens, open)?;
+        Ok(true)
+    }
+
+    /// Passes an `else`, or tells that the operands aren't the results.
+    fn turn(&mut self, alloc: Global, results: Option<ValType>) -> Result<bool, OutOfMemory>
+        ensures { IfOk result (λ led. (c : Context) (ps : List Part) → types_of results ≡ c.results → IsAt c self.old ps → Leads led c self.new ps Flat.Else) }
+    {
+        match self.opens.pop() {
+            Some(open) => {
+                let Open {
+                    head,
+                    turned: _,
+                    below,
+                } = open;
+                if !self.operands.finish(results_of(head)) {
+                    return Ok(false);
+                }
+                self.operands = Operands::new(alloc);
+                let turned = Open {
+                    head,
+                    turned: true,
+                    below,
+                };
+                push_open(&mut self.opens, turned)?;
+                Ok(true)
+            }
+            None => {
+                if !self.operands.finish(results) {
+                    return Ok(false);
+                }
+                self.operands = Operands::new(alloc);
+                Ok(true)
+            }
+        }
+    }
+
+    /// Closes the innermost block, or tells that the operands aren't its results.
+    fn end(&mut self) -> Result<bool, OutOfMemory>
+        ensures { IfOk result (λ led. (c : Context) (ps : List Part) → IsAt c self.old ps → Leads led c self.new ps Flat.End) }
+    {
+        match self.opens.pop() {
+            Some(open) => {
+                let Open {
+                    head,
+                    turned,
+                    below,
+                } = open;
+                if !may_end(head, turned) {
+                    return Ok(false);
+                }
+                if !self.operands.finish(results_of(head)) {
+                    return Ok(false);
+                }
+                self.operands = below;
+                self.operands.give_with(results_of(head))?;
+                let _ = self.labels.pop();
+                Ok(true)
+            }
+            None => Ok(true),
+        }
+    }
+
+    /// Goes on behind an item, or tells what is wrong with it.
+    pub fn advance(
+        &mut self,
+        alloc: Global,
+        names: &Names<'_>,
+        item: &Flat,
+    ) -> Result<Option<ValidWord>, OutOfMemory>
+        requires names { AreNames names.now }
+        requires simple { IsOneSimple item.now }
+        ensures { IfOk result (λ fault. (ps : List Part) → IsAt (context_in names.now) self.old ps → Walked fault (context_in names.now) self.new ps item.now) }
+    {
+        let led = match item {
+            Flat::One(instr) => return step(
+                &mut self.operands,
+                names,
+                self.labels.as_slice(),
+                instr,
+            ),
+            Flat::Block(ty) => self.begin(alloc, Head::Block(*ty))?,
+            Flat::Loop(ty) => self.begin(alloc, Head::Loop(*ty))?,
+            Flat::If(ty) => self.begin(alloc, Head::If(*ty))?,
+            Flat::Else => self.turn(alloc, names.results)?,
+            Flat::End => self.end()?,
+        };
+        if led {
+            Ok(None)
+        } else {
+            Ok(Some(ValidWord::Stack))
+        }
+    }
+}

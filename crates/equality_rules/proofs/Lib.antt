@@ -1,0 +1,9 @@
+pub mod Becomes
+pub mod Coefficients
+pub mod EqualityLaws
+pub mod FormulaBecomes
+pub mod Forms
+pub mod LinearLaws
+pub mod LinearTerms
+pub mod Quotients
+pub mod RewriteLaws

@@ -1,0 +1,4 @@
+pub mod Equality
+pub mod Linear
+pub mod Sums
+pub mod Rewrite

@@ -1,0 +1,6 @@
+pub mod FitLaws
+pub mod Operations
+pub mod RowLaws
+pub mod Shapes
+pub mod TakenRows
+pub mod Values

@@ -1,0 +1,12 @@
+//! The listing of a module: one line for each entry and each instruction.
+#![tactic(auto)]
+
+mod entry;
+mod instrs;
+mod names;
+mod sections;
+#[cfg(test)]
+mod tests;
+mod text;
+
+pub use sections::listing;

@@ -1,0 +1,144 @@
+// The names of instructions.
+
+ghost use Rattle.std.specs.Prelude.{◌≡◌, ◌++◌, OnOk};
+ghost use Rattle.module_listing.specs.Names.{plain_name, int_name, num_name, const_name, load_name, store_name, instr_name};
+
+use crate::text::write_text;
+use wasm_syntax::{Instr, LoadOp, Plain, StoreOp};
+use wasm_values::{Bytes, IntOp, NumOp, OutOfMemory, Val};
+
+fn plain_name(plain: Plain) -> &'static str
+    ensures { result.now ≡ plain_name plain }
+{
+    match plain {
+        Plain::Unreachable => "unreachable",
+        Plain::Nop => "nop",
+        Plain::Return => "return",
+        Plain::Drop => "drop",
+        Plain::Select => "select",
+        Plain::MemorySize => "memory.size",
+        Plain::MemoryGrow => "memory.grow",
+    }
+}
+
+fn int_name(op: IntOp) -> &'static str
+    ensures { result.now ≡ int_name op }
+{
+    match op {
+        IntOp::Eqz => "eqz",
+        IntOp::Eq => "eq",
+        IntOp::Ne => "ne",
+        IntOp::LtS => "lt_s",
+        IntOp::LtU => "lt_u",
+        IntOp::GtS => "gt_s",
+        IntOp::GtU => "gt_u",
+        IntOp::LeS => "le_s",
+        IntOp::LeU => "le_u",
+        IntOp::GeS => "ge_s",
+        IntOp::GeU => "ge_u",
+        IntOp::Clz => "clz",
+        IntOp::Ctz => "ctz",
+        IntOp::Popcnt => "popcnt",
+        IntOp::Add => "add",
+        IntOp::Sub => "sub",
+        IntOp::Mul => "mul",
+        IntOp::DivS => "div_s",
+        IntOp::DivU => "div_u",
+        IntOp::RemS => "rem_s",
+        IntOp::RemU => "rem_u",
+        IntOp::And => "and",
+        IntOp::Or => "or",
+        IntOp::Xor => "xor",
+        IntOp::Shl => "shl",
+        IntOp::ShrS => "shr_s",
+        IntOp::ShrU => "shr_u",
+        IntOp::Rotl => "rotl",
+        IntOp::Rotr => "rotr",
+    }
+}
+
+fn load_name(op: LoadOp) -> &'static str
+    ensures { result.now ≡ load_name op }
+{
+    match op {
+        LoadOp::I32Load => "i32.load",
+        LoadOp::I64Load => "i64.load",
+        LoadOp::I32Load8S => "i32.load8_s",
+        LoadOp::I32Load8U => "i32.load8_u",
+        LoadOp::I32Load16S => "i32.load16_s",
+        LoadOp::I32Load16U => "i32.load16_u",
+        LoadOp::I64Load8S => "i64.load8_s",
+        LoadOp::I64Load8U => "i64.load8_u",
+        LoadOp::I64Load16S => "i64.load16_s",
+        LoadOp::I64Load16U => "i64.load16_u",
+        LoadOp::I64Load32S => "i64.load32_s",
+        LoadOp::I64Load32U => "i64.load32_u",
+    }
+}
+
+fn store_name(op: StoreOp) -> &'static str
+    ensures { result.now ≡ store_name op }
+{
+    match op {
+        StoreOp::I32Store => "i32.store",
+        StoreOp::I64Store => "i64.store",
+        StoreOp::I32Store8 => "i32.store8",
+        StoreOp::I32Store16 => "i32.store16",
+        StoreOp::I64Store8 => "i64.store8",
+        StoreOp::I64Store16 => "i64.store16",
+        StoreOp::I64Store32 => "i64.store32",
+    }
+}
+
+fn const_name(value: Val) -> &'static str
+    ensures { result.now ≡ const_name value }
+{
+    match value {
+        Val::I32(_) => "i32.const",
+        Val::I64(_) => "i64.const",
+    }
+}
+
+fn write_num_name(out: &mut Bytes, op: NumOp) -> Result<(), OutOfMemory>
+    ensures { OnOk result (out.new ≡ out.old ++ num_name op) }
+{
+    match op {
+        NumOp::W32(op) => {
+            write_text(out, "i32.")?;
+            write_text(out, int_name(op))
+        }
+        NumOp::W64(op) => {
+            write_text(out, "i64.")?;
+            write_text(out, int_name(op))
+        }
+        NumOp::Wrap => write_text(out, "i32.wrap_i64"),
+        NumOp::ExtendS => write_text(out, "i64.extend_i32_s"),
+        NumOp::ExtendU => write_text(out, "i64.extend_i32_u"),
+    }
+}
+
+/// Adds the name of an instruction.
+pub(crate) fn write_name(out: &mut Bytes, instr: &Instr) -> Result<(), OutOfMemory>
+    ensures { OnOk result (out.new ≡ out.old ++ instr_name instr.now) }
+{
+    match instr {
+        Instr::Plain(plain) => write_text(out, plain_name(*plain)),
+        Instr::Num(op) => write_num_name(out, *op),
+        Instr::Const(value) => write_text(out, const_name(*value)),
+        Instr::LocalGet(_) => write_text(out, "local.get"),
+        Instr::LocalSet(_) => write_text(out, "local.set"),
+        Instr::LocalTee(_) => write_text(out, "local.tee"),
+        Instr::GlobalGet(_) => write_text(out, "global.get"),
+        Instr::GlobalSet(_) => write_text(out, "global.set"),
+        Instr::Load(op, _, _) => write_text(out, load_name(*op)),
+        Instr::Store(op, _, _) => write_text(out, store_name(*op)),
+        Instr::Block(_, _) => write_text(out, "block"),
+        Instr::Loop(_, _) => write_text(out, "loop"),
+        Instr::If(_, _, _) => write_text(out, "if"),
+        Instr::Br(_) => write_text(out, "br"),
+        Instr::BrIf(_) => write_text(out, "br_if"),
+        Instr::BrTable(_, _) => write_text(out, "br_table"),
+        Instr::Call(_) => write_text(out, "call"),
+        Instr::CallIndirect(_) => write_text(out, "call_indirect"),
+    }
+}

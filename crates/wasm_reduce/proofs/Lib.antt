@@ -1,0 +1,12 @@
+pub mod Acting
+pub mod Choices
+pub mod Counts
+pub mod Determined
+pub mod Ends
+pub mod Entering
+pub mod Jumps
+pub mod Loads
+pub mod Numbers
+pub mod Results
+pub mod Stacks
+pub mod Stepping

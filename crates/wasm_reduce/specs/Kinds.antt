@@ -1,0 +1,21 @@
+-- Kinds of instructions, by what the machine's parts do with them. These words are the project's own.
+use Rattle.std.specs.Prelude.{Bool, true, false}
+use Rattle.wasm_syntax.specs.declared.instr.Instr.{Instr}
+use Rattle.wasm_syntax.specs.declared.instr.Instr.TheVariants as instr
+
+-- The instruction changes nothing outside its frame's operands, locals and labels, or enters a frame; it is no block and has
+-- immediates.
+abbrev pub only_reads : Instr → Bool
+only_reads (instr.Num op) = true
+only_reads (instr.Const value) = true
+only_reads (instr.LocalGet x) = true
+only_reads (instr.LocalSet x) = true
+only_reads (instr.LocalTee x) = true
+only_reads (instr.GlobalGet x) = true
+only_reads (instr.Load op align offset) = true
+only_reads (instr.Br k) = true
+only_reads (instr.BrIf k) = true
+only_reads (instr.BrTable ks k) = true
+only_reads (instr.Call x) = true
+only_reads (instr.CallIndirect x) = true
+only_reads _ = false

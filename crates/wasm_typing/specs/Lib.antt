@@ -1,0 +1,4 @@
+pub mod Typing
+pub mod Open
+pub mod Valid
+pub mod Faults

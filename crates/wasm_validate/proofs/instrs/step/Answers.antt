@@ -1,9 +1,0 @@
-use Rattle.std.proofs.Common.{sym, ◌∙◌}
-use Rattle.wasm_validate.specs.Operands.{Are}
-use Rattle.wasm_validate.specs.Steps.{context_in, labels_in}
-use Rattle.wasm_validate.proofs.ActLemmas.{need_stuck}
-use Rattle.wasm_validate.proofs.instrs.step.Goals as goal
-
-pub returns-in-Some : goal.returns-in-Some
-returns-in-Some c =
-    need_stuck (Are c.args.operands.now) (context_in c.args.names.now) (labels_in c.args.labels.now) c.args.instr.now c.in-Some.word c.requires.simple (sym c.first_need.ensures ∙ c.in-Some.is)

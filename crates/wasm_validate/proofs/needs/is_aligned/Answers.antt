@@ -1,5 +1,0 @@
-use Rattle.wasm_validate.proofs.ActLemmas.{aligned_far}
-use Rattle.wasm_validate.proofs.needs.is_aligned.Goals as goal
-
-pub returns-else-align-le3 : goal.returns-else-align-le3
-returns-else-align-le3 c = aligned_far c.args.align c.args.width c.if-align-le3.false c.requires

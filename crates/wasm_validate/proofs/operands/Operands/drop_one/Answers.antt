@@ -1,9 +1,0 @@
-use Rattle.wasm_validate.specs.Operands.{Are}
-use Rattle.wasm_validate.proofs.OperandLemmas.{dropped, none_to_drop}
-use Rattle.wasm_validate.proofs.operands.Operands.drop_one.Goals as goal
-
-pub returns-in-Some : goal.returns-in-Some
-returns-in-Some c = dropped (Are c.args.self.now) (Are c.take_any.new.self) c.in-Some.field-0 c.in-Some.ensures
-
-pub returns-in-None : goal.returns-in-None
-returns-in-None c = none_to_drop (Are c.args.self.now) (Are c.take_any.new.self) c.in-None.ensures

@@ -1,6 +1,0 @@
-use Rattle.std.proofs.Common.{take, reverse}
-use Rattle.wasm_validate.specs.Operands.{Are, Gave}
-use Rattle.wasm_validate.proofs.operands.Operands.give_all.Given as goal
-
-abbrev pub invariant-loop-ty : goal.invariant-loop-ty
-invariant-loop-ty l = Gave (Are l.fn.self) (Are l.self) (reverse (take l.ty-index l.types))

@@ -1,9 +1,0 @@
-use Rattle.std.proofs.Common.{refl}
-use Rattle.wasm_validate.specs.declared.operands.Operands.{Operands}
-use Rattle.wasm_validate.proofs.OperandLemmas.{pushed}
-use Rattle.wasm_validate.proofs.operands.Operands.push.Goals as goal
-
-pub returns-in-Ok-clause-pushed : goal.returns-in-Ok-clause-pushed
-returns-in-Ok-clause-pushed c =
-    let after : Operands = record { items = c.push.new.self; dead = c.args.self.now.dead } in
-    pushed c.args.known c.args.self.now after c.in-Ok.ensures.ok refl

@@ -1,9 +1,0 @@
-use Rattle.wasm_validate.specs.Operands.{Are}
-use Rattle.wasm_validate.proofs.OperandLemmas.{selected}
-use Rattle.wasm_validate.proofs.operands.Operands.select.Goals as goal
-
-pub returns-in_ok-push-in-Some-common : goal.returns-in_ok-push-in-Some-common
-returns-in_ok-push-in-Some-common c =
-    selected (Are c.args.self.now) (Are c.take.new.self) (Are c.take_any.new.self) (Are c.take_any-2.new.self) (Are c.push.new.self)
-    c.in-Some.first c.in-Some-take_any.second c.in-Some-common.known
-    c.if-not-take.ensures c.in-Some.ensures c.in-Some-take_any.ensures c.in-Some-common.ensures c.in_ok-push-in-Some-common.ensures.pushed
