@@ -17,8 +17,8 @@ use Rattle.wasm_syntax.specs.Parts.{Part, own, may_turn, then_item}
 use Rattle.binary_grammar.specs.declared.fault.DecodeFault.{DecodeFault}
 use Rattle.binary_grammar.specs.declared.fault.DecodeFault.TheVariants.{Malformed, Limit}
 use Rattle.binary_grammar.specs.declared.fault.DecodeWord.TheVariants as word
-use Rattle.binary_grammar.specs.declared.fault.LimitWord.{LimitWord}
-use Rattle.binary_grammar.specs.declared.fault.LimitWord.TheVariants as limit
+use Rattle.wasm_values.specs.declared.limit.LimitWord.{LimitWord}
+use Rattle.wasm_values.specs.declared.limit.LimitWord.TheVariants as limit
 use Rattle.binary_grammar.specs.Reading.{◌>>=◌, Reader, place, then_at, done_at, of_byte, tagged_at, number_at, byte_at, entries_at, vector_at, limited_at, list_at, run_at, bytes_at, text_at, name_at}
 use Rattle.binary_grammar.specs.TypeReading.{value_type_at, tag_at, flag_at, block_type_at, func_type_at, greatest_at, limits_at, table_type_at, global_type_at}
 use Rattle.binary_grammar.specs.CodeReading.{word32_at, word64_at, index_at, indexed_at, simple_at, head_at, op_at, kind_at, item_at, is_last, own_instrs, rest_at, expression_at, instrs_at}

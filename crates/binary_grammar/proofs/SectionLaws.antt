@@ -9,7 +9,7 @@ use Rattle.wasm_syntax.specs.declared.module.Segment.{Segment}
 use Rattle.binary_grammar.specs.declared.fault.DecodeFault.{DecodeFault}
 use Rattle.binary_grammar.specs.declared.fault.DecodeFault.TheVariants.{Malformed}
 use Rattle.binary_grammar.specs.declared.fault.DecodeWord.TheVariants as word
-use Rattle.binary_grammar.specs.declared.fault.LimitWord.TheVariants as limit
+use Rattle.wasm_values.specs.declared.limit.LimitWord.TheVariants as limit
 use Rattle.binary_grammar.specs.declared.section.Body.{Body}
 use Rattle.binary_grammar.specs.declared.section.Section.{Section}
 use Rattle.binary_grammar.specs.declared.section.Section.TheVariants as section

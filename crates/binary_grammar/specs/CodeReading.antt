@@ -17,7 +17,7 @@ use Rattle.wasm_syntax.specs.Opcodes.{kind_of}
 use Rattle.wasm_syntax.specs.Parts.{Part, own, may_turn, then_item}
 use Rattle.binary_grammar.specs.declared.fault.DecodeFault.TheVariants.{Malformed, Limit}
 use Rattle.binary_grammar.specs.declared.fault.DecodeWord.TheVariants as word
-use Rattle.binary_grammar.specs.declared.fault.LimitWord.TheVariants.{Nesting, Locals}
+use Rattle.wasm_values.specs.declared.limit.LimitWord.TheVariants.{Nesting, Locals}
 use Rattle.binary_grammar.specs.declared.section.Body.{Body}
 use Rattle.binary_grammar.specs.NumberReading.{s32_at, s64_at}
 use Rattle.binary_grammar.specs.Reading.{◌>>=◌, Reader, place, then_at, done_at, tagged_at, of_number, number_at, list_at, sized_at}

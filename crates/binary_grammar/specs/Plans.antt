@@ -18,8 +18,8 @@ use Rattle.wasm_syntax.specs.declared.module.Segment.{Segment}
 use Rattle.wasm_syntax.specs.declared.module.Import.{Import}
 use Rattle.wasm_syntax.specs.declared.module.Export.{Export}
 use Rattle.wasm_syntax.specs.Parts.{Part, own, may_turn, then_item}
-use Rattle.binary_grammar.specs.declared.fault.LimitWord.{LimitWord}
-use Rattle.binary_grammar.specs.declared.fault.LimitWord.TheVariants as limit
+use Rattle.wasm_values.specs.declared.limit.LimitWord.{LimitWord}
+use Rattle.wasm_values.specs.declared.limit.LimitWord.TheVariants as limit
 use Rattle.binary_grammar.specs.declared.section.Body.{Body}
 use Rattle.binary_grammar.specs.declared.section.Section.{Section}
 use Rattle.binary_grammar.specs.declared.section.Section.TheVariants as section

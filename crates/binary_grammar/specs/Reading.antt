@@ -6,7 +6,7 @@ use Rattle.binary_grammar.specs.declared.fault.LebFault.TheVariants as leb
 use Rattle.binary_grammar.specs.declared.fault.DecodeFault.{DecodeFault}
 use Rattle.binary_grammar.specs.declared.fault.DecodeFault.TheVariants.{Malformed, Limit, OutOfMemory}
 use Rattle.binary_grammar.specs.declared.fault.DecodeWord.TheVariants.{End, Size, Number, Utf8}
-use Rattle.binary_grammar.specs.declared.fault.LimitWord.{LimitWord}
+use Rattle.wasm_values.specs.declared.limit.LimitWord.{LimitWord}
 use Rattle.std.specs.Str.{is_utf8}
 use Rattle.binary_grammar.specs.NumberReading.{u32_at}
 

@@ -9,8 +9,8 @@ use Rattle.wasm_syntax.specs.Opcodes.{kind_of}
 use Rattle.binary_grammar.specs.declared.fault.DecodeFault.{DecodeFault}
 use Rattle.binary_grammar.specs.declared.fault.DecodeFault.TheVariants.{Malformed, Limit}
 use Rattle.binary_grammar.specs.declared.fault.DecodeWord.TheVariants as word
-use Rattle.binary_grammar.specs.declared.fault.LimitWord.{LimitWord}
-use Rattle.binary_grammar.specs.declared.fault.LimitWord.TheVariants as limit
+use Rattle.wasm_values.specs.declared.limit.LimitWord.{LimitWord}
+use Rattle.wasm_values.specs.declared.limit.LimitWord.TheVariants as limit
 use Rattle.binary_grammar.specs.Reading.{◌>>=◌, Reader, place, number_at, of_byte, run_at, text_at, region_at, ended}
 use Rattle.binary_grammar.specs.TypeReading.{value_type_at, tag_at, flag_at, block_type_at}
 use Rattle.binary_grammar.specs.CodeReading.{word32_at, word64_at}

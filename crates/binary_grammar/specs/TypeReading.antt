@@ -14,7 +14,7 @@ use Rattle.wasm_syntax.specs.declared.module.ExportKind.TheVariants as export
 use Rattle.binary_grammar.specs.declared.fault.DecodeFault.{DecodeFault}
 use Rattle.binary_grammar.specs.declared.fault.DecodeFault.TheVariants.{Malformed}
 use Rattle.binary_grammar.specs.declared.fault.DecodeWord.TheVariants.{Byte, Float}
-use Rattle.binary_grammar.specs.declared.fault.LimitWord.TheVariants.{Params}
+use Rattle.wasm_values.specs.declared.limit.LimitWord.TheVariants.{Params}
 use Rattle.binary_grammar.specs.Reading.{◌>>=◌, Reader, then_at, done_at, of_byte, tagged_at, number_at, name_at, list_at, limited_at}
 
 abbrev pub value_type_of : ℕ → ℕ → Result ValType DecodeFault

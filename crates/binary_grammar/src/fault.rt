@@ -3,7 +3,7 @@ ghost use Rattle.binary_grammar.specs.declared.fault.DecodeFault.{DecodeFault};
 ghost use Rattle.binary_grammar.specs.declared.fault.DecodeFault.TheVariants as DecodeFault;
 
 use thiserror::Error;
-use wasm_values::OutOfMemory;
+use wasm_values::{LimitWord, OutOfMemory};
 
 /// Why bytes spell no number.
 #[derive(Clone, Copy, Debug, PartialEq, Eq, Error)]
@@ -28,27 +28,6 @@ pub enum DecodeWord {
     Utf8,
     Float,
     Count,
-}
-
-/// A limit that was passed.
-#[derive(Clone, Copy, Debug, PartialEq, Eq)]
-pub enum LimitWord {
-    Module,
-    Notes,
-    Script,
-    Types,
-    Imports,
-    Functions,
-    Globals,
-    Params,
-    Locals,
-    Nesting,
-    Nodes,
-    State,
-    Facts,
-    Chunks,
-    Variables,
-    Derivation,
 }
 
 /// Why bytes were not decoded.

@@ -5,6 +5,6 @@ mod fault;
 mod laws;
 mod section;
 
-pub use fault::{DecodeFault, DecodeWord, LebFault, LimitWord};
+pub use fault::{DecodeFault, DecodeWord, LebFault};
 pub use laws::{complete_readings, longest_reading, one_module, readings};
 pub use section::{Body, Decoded, Draft, Section};

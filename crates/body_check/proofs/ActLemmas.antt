@@ -18,7 +18,8 @@ use Rattle.wasm_syntax.specs.FlatForm.{is_simple}
 use Rattle.wasm_syntax.specs.Trees.{instruction_of}
 use Rattle.wasm_typing.specs.declared.fault.ValidWord.{ValidWord}
 use Rattle.wasm_typing.specs.declared.fault.ValidWord.TheVariants as word
-use Rattle.wasm_typing.specs.Typing.{Types, Context, Turns, load_width, store_width, load_type, store_type, PlainTyped, InstructionTyped}
+use Rattle.wasm_syntax.specs.Accesses.{bytes_loaded, bytes_stored, loaded_type, stored_type}
+use Rattle.wasm_typing.specs.Typing.{Types, Context, Turns, PlainTyped, InstructionTyped}
 use Rattle.wasm_typing.specs.Faults.{Condition, condition, first_failing, conditions, plain_conditions, is_mutable, is_same_type, same_types, is_label_of, are_targets}
 use Rattle.body_check.specs.Operands.{IsStuck, Goes, Took}
 use Rattle.body_check.specs.Steps.{IsReady, Acts, word_of}
@@ -201,9 +202,9 @@ typed_ready c labels (source.GlobalGet x) ins outs s t = some_there _ t.0 word.I
 typed_ready c labels (source.GlobalSet x) ins outs s t =
     both_hold (is_some (slice_get c.globals x)) word.Index (condition (is_mutable (slice_get c.globals x)) word.WrongType ∷ []) (ap is_some t.1) (both_hold _ word.WrongType [] (ap is_mutable t.1 ∙ t.2) refl)
 typed_ready c labels (source.Load op align offset) ins outs s t =
-    both_hold (nat_lt 0 (length c.memories)) word.Index (condition (nat_le (2 ^ align) (load_width op)) word.Align ∷ []) (lt_to 0 (length c.memories) t.0) (both_hold _ word.Align [] (le_to _ _ t.1) refl)
+    both_hold (nat_lt 0 (length c.memories)) word.Index (condition (nat_le (2 ^ align) (bytes_loaded op)) word.Align ∷ []) (lt_to 0 (length c.memories) t.0) (both_hold _ word.Align [] (le_to _ _ t.1) refl)
 typed_ready c labels (source.Store op align offset) ins outs s t =
-    both_hold (nat_lt 0 (length c.memories)) word.Index (condition (nat_le (2 ^ align) (store_width op)) word.Align ∷ []) (lt_to 0 (length c.memories) t.0) (both_hold _ word.Align [] (le_to _ _ t.1) refl)
+    both_hold (nat_lt 0 (length c.memories)) word.Index (condition (nat_le (2 ^ align) (bytes_stored op)) word.Align ∷ []) (lt_to 0 (length c.memories) t.0) (both_hold _ word.Align [] (le_to _ _ t.1) refl)
 typed_ready c labels (source.Block' ty n body) ins outs s t = cc
 typed_ready c labels (source.Loop' ty n body) ins outs s t = cc
 typed_ready c labels (source.If' ty n first other) ins outs s t = cc
@@ -248,20 +249,20 @@ table_there c labels t h = lt_from 0 (length c.tables) (and_first (nat_lt 0 (len
 pub access_there : (b a : Bool) (w v : ValidWord) → first_failing (condition b w ∷ condition a v ∷ []) ≡ None → (b ≡ true) × (a ≡ true)
 access_there b a w v h = (first_holds b w (condition a v ∷ []) h, first_holds a v [] (rest_holds b w (condition a v ∷ []) h))
 
-pub same_load : (c : Context) (labels : List Types) (op : LoadOp) (align offset : ℕ) (t : ValType) → t ≡ load_type op → IsReady c labels (source.Load op align offset) →
+pub same_load : (c : Context) (labels : List Types) (op : LoadOp) (align offset : ℕ) (t : ValType) → t ≡ loaded_type op → IsReady c labels (source.Load op align offset) →
     Same (Turns (I32 ∷ []) (t ∷ [])) (InstructionTyped c labels (instruction_of (source.Load op align offset)))
 same_load c labels op align offset t e h =
-    let (a, b) = access_there (nat_lt 0 (length c.memories)) (nat_le (2 ^ align) (load_width op)) word.Index word.Align h in (
-      λ ins outs r. (lt_from 0 (length c.memories) a, le_from (2 ^ align) (load_width op) b, (same_turns (I32 ∷ []) (I32 ∷ []) (t ∷ []) (load_type op ∷ []) refl (ap (λ u. u ∷ []) e)).0 ins outs r),
-      λ ins outs s. (same_turns (I32 ∷ []) (I32 ∷ []) (t ∷ []) (load_type op ∷ []) refl (ap (λ u. u ∷ []) e)).1 ins outs s.2,
+    let (a, b) = access_there (nat_lt 0 (length c.memories)) (nat_le (2 ^ align) (bytes_loaded op)) word.Index word.Align h in (
+      λ ins outs r. (lt_from 0 (length c.memories) a, le_from (2 ^ align) (bytes_loaded op) b, (same_turns (I32 ∷ []) (I32 ∷ []) (t ∷ []) (loaded_type op ∷ []) refl (ap (λ u. u ∷ []) e)).0 ins outs r),
+      λ ins outs s. (same_turns (I32 ∷ []) (I32 ∷ []) (t ∷ []) (loaded_type op ∷ []) refl (ap (λ u. u ∷ []) e)).1 ins outs s.2,
     )
 
-pub same_store : (c : Context) (labels : List Types) (op : StoreOp) (align offset : ℕ) (t : ValType) → t ≡ store_type op → IsReady c labels (source.Store op align offset) →
+pub same_store : (c : Context) (labels : List Types) (op : StoreOp) (align offset : ℕ) (t : ValType) → t ≡ stored_type op → IsReady c labels (source.Store op align offset) →
     Same (Turns (t ∷ I32 ∷ []) []) (InstructionTyped c labels (instruction_of (source.Store op align offset)))
 same_store c labels op align offset t e h =
-    let (a, b) = access_there (nat_lt 0 (length c.memories)) (nat_le (2 ^ align) (store_width op)) word.Index word.Align h in (
-      λ ins outs r. (lt_from 0 (length c.memories) a, le_from (2 ^ align) (store_width op) b, (same_turns (t ∷ I32 ∷ []) (store_type op ∷ I32 ∷ []) [] [] (ap (λ u. u ∷ I32 ∷ []) e) refl).0 ins outs r),
-      λ ins outs s. (same_turns (t ∷ I32 ∷ []) (store_type op ∷ I32 ∷ []) [] [] (ap (λ u. u ∷ I32 ∷ []) e) refl).1 ins outs s.2,
+    let (a, b) = access_there (nat_lt 0 (length c.memories)) (nat_le (2 ^ align) (bytes_stored op)) word.Index word.Align h in (
+      λ ins outs r. (lt_from 0 (length c.memories) a, le_from (2 ^ align) (bytes_stored op) b, (same_turns (t ∷ I32 ∷ []) (stored_type op ∷ I32 ∷ []) [] [] (ap (λ u. u ∷ I32 ∷ []) e) refl).0 ins outs r),
+      λ ins outs s. (same_turns (t ∷ I32 ∷ []) (stored_type op ∷ I32 ∷ []) [] [] (ap (λ u. u ∷ I32 ∷ []) e) refl).1 ins outs s.2,
     )
 
 pub need_stuck : (P : Types → Type 0) (c : Context) (labels : List Types) (i : Instr) (w : ValidWord) → is_simple i ≡ true → first_failing (conditions c labels i) ≡ Some w →

@@ -3,14 +3,15 @@
 ghost use Rattle.std.specs.Prelude.{◌≡◌, [], ◌∷◌, ◌++◌, None, IfOk, IsTrue, ◌==◌, reverse, length};
 ghost use Rattle.wasm_values.specs.Operators.{operand_type, result_type, num_operands, is_test, type_of};
 ghost use Rattle.wasm_syntax.specs.FlatForm.{is_simple};
-ghost use Rattle.wasm_typing.specs.Typing.{Types, types_of, num_takes, load_type, store_type, Turns, Takes};
+ghost use Rattle.wasm_syntax.specs.Accesses.{loaded_type, stored_type};
+ghost use Rattle.wasm_typing.specs.Typing.{Types, types_of, num_takes, Turns, Takes};
 ghost use Rattle.body_check.specs.Operands.{Are, Goes};
 ghost use Rattle.body_check.specs.Steps.{context_in, AreNames, labels_in, is_variable, is_transfer, IsReady, Acts, Steps};
 
 use crate::names::{self, Names};
 use crate::needs::first_need;
 use crate::operands::Operands;
-use wasm_syntax::{Instr, LoadOp, Plain, StoreOp};
+use wasm_syntax::{Instr, Plain, loaded_type, stored_type};
 use wasm_typing::ValidWord;
 use wasm_values::{IntOp, NumOp, OutOfMemory, Val, ValType};
 
@@ -119,28 +120,6 @@ fn act_num(operands: &mut Operands, op: NumOp) -> Result<bool, OutOfMemory>
     }
 }
 
-fn type_of_load(op: LoadOp) -> ValType
-    ensures { result ≡ load_type op }
-{
-    match op {
-        LoadOp::I32Load
-        | LoadOp::I32Load8S
-        | LoadOp::I32Load8U
-        | LoadOp::I32Load16S
-        | LoadOp::I32Load16U => ValType::I32,
-        _ => ValType::I64,
-    }
-}
-
-fn type_of_store(op: StoreOp) -> ValType
-    ensures { result ≡ store_type op }
-{
-    match op {
-        StoreOp::I32Store | StoreOp::I32Store8 | StoreOp::I32Store16 => ValType::I32,
-        _ => ValType::I64,
-    }
-}
-
 fn type_of_value(value: Val) -> ValType
     ensures { result ≡ type_of value }
 {
@@ -216,8 +195,8 @@ fn act(
         Instr::Plain(op) => act_plain(operands, names, labels, *op),
         Instr::Num(op) => act_num(operands, *op),
         Instr::Const(value) => operands.turn(&[], &[type_of_value(*value)]),
-        Instr::Load(op, _, _) => operands.turn(&[ValType::I32], &[type_of_load(*op)]),
-        Instr::Store(op, _, _) => operands.turn(&[ValType::I32, type_of_store(*op)], &[]),
+        Instr::Load(op, _, _) => operands.turn(&[ValType::I32], &[loaded_type(*op)]),
+        Instr::Store(op, _, _) => operands.turn(&[ValType::I32, stored_type(*op)], &[]),
         Instr::LocalGet(_) | Instr::LocalSet(_) | Instr::LocalTee(_) => act_variable(
             operands, names, labels, instr,
         ),

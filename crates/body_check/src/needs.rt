@@ -2,45 +2,22 @@
 
 ghost use Rattle.std.specs.Prelude.{◌≡◌, ◌≤◌, ◌^◌, [], ◌∷◌, nat_le, nat_lt, is_some, slice_get, length};
 ghost use Rattle.std.specs.List.{list_all};
-ghost use Rattle.wasm_typing.specs.Typing.{types_of, load_width, store_width};
+ghost use Rattle.wasm_syntax.specs.Accesses.{bytes_loaded, bytes_stored};
+ghost use Rattle.wasm_typing.specs.Typing.{types_of};
 ghost use Rattle.wasm_typing.specs.Faults.{condition, first_failing, conditions, same_types, are_targets, is_label_of, is_mutable};
 ghost use Rattle.body_check.specs.Steps.{context_in, AreNames, labels_in};
 
 use crate::names::{self, Names};
-use wasm_syntax::{Instr, LoadOp, Plain, StoreOp};
+use wasm_syntax::{Instr, Plain, bytes_loaded, bytes_stored};
 use wasm_typing::ValidWord;
 use wasm_values::ValType;
 
-fn width_of_load(op: LoadOp) -> u32
-    ensures value { result ≡ load_width op }
-    ensures small { result ≤ 8 }
-{
-    match op {
-        LoadOp::I32Load8S | LoadOp::I32Load8U | LoadOp::I64Load8S | LoadOp::I64Load8U => 1,
-        LoadOp::I32Load16S | LoadOp::I32Load16U | LoadOp::I64Load16S | LoadOp::I64Load16U => 2,
-        LoadOp::I32Load | LoadOp::I64Load32S | LoadOp::I64Load32U => 4,
-        LoadOp::I64Load => 8,
-    }
-}
-
-fn width_of_store(op: StoreOp) -> u32
-    ensures value { result ≡ store_width op }
-    ensures small { result ≤ 8 }
-{
-    match op {
-        StoreOp::I32Store8 | StoreOp::I64Store8 => 1,
-        StoreOp::I32Store16 | StoreOp::I64Store16 => 2,
-        StoreOp::I32Store | StoreOp::I64Store32 => 4,
-        StoreOp::I64Store => 8,
-    }
-}
-
 /// Whether an alignment, by its exponent, is at most an access width.
-fn is_aligned(align: u32, width: u32) -> bool
+fn is_aligned(align: u32, width: usize) -> bool
     requires { width ≤ 8 }
     ensures { result ≡ nat_le (2 ^ align) width }
 {
-    align <= 3 && 1u32 << align <= width
+    align <= 3 && 1usize << align <= width
 }
 
 fn is_same(a: Option<ValType>, b: Option<ValType>) -> bool
@@ -95,7 +72,7 @@ fn index_unless(is_there: bool) -> Option<ValidWord>
     }
 }
 
-fn align_fault(names: &Names<'_>, align: u32, width: u32) -> Option<ValidWord>
+fn align_fault(names: &Names<'_>, align: u32, width: usize) -> Option<ValidWord>
     requires names { AreNames names.now }
     requires small { width ≤ 8 }
     ensures { result ≡ first_failing (condition (nat_lt 0 (length (context_in names.now).memories)) ValidWord.Index ∷ condition (nat_le (2 ^ align) width) ValidWord.Align ∷ []) }
@@ -144,8 +121,8 @@ pub(crate) fn first_need(
         ),
         Instr::GlobalGet(x) => index_unless(names.scope.globals.get(*x as usize).is_some()),
         Instr::GlobalSet(x) => set_fault(names, *x),
-        Instr::Load(op, align, _) => align_fault(names, *align, width_of_load(*op)),
-        Instr::Store(op, align, _) => align_fault(names, *align, width_of_store(*op)),
+        Instr::Load(op, align, _) => align_fault(names, *align, bytes_loaded(*op)),
+        Instr::Store(op, align, _) => align_fault(names, *align, bytes_stored(*op)),
         Instr::Br(l) | Instr::BrIf(l) => label_unless(names::label_at(labels, *l).is_some()),
         Instr::BrTable(ls, l) => label_unless(have_one_type(labels, ls.as_slice(), *l)),
         Instr::Call(f) => index_unless(names::func_type(names, *f).is_some()),

@@ -1,4 +1,5 @@
 use thiserror::Error;
+use wasm_values::LimitWord;
 
 /// Why an outline isn't accepted.
 #[derive(Clone, Copy, Debug, PartialEq, Eq)]
@@ -14,27 +15,6 @@ pub enum Reason {
     Derivation(usize),
     Target,
     Initial,
-}
-
-/// What may pass its limit.
-#[derive(Clone, Copy, Debug, PartialEq, Eq)]
-pub enum LimitWord {
-    Module,
-    Notes,
-    Script,
-    Types,
-    Imports,
-    Functions,
-    Globals,
-    Params,
-    Locals,
-    Nesting,
-    Nodes,
-    State,
-    Facts,
-    Chunks,
-    Variables,
-    Derivation,
 }
 
 /// What the check answers. `at` is a byte offset in the module file.

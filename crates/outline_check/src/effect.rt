@@ -2,14 +2,13 @@ ghost use Rattle.std.specs.Prelude.{◌≡◌, ◌<◌, ◌∷◌};
 ghost use Rattle.outline_check.specs.Refusals.{HasMemory, IsSaid};
 ghost use Rattle.outline_check.specs.States.{made, with_fact, with_global, with_globals, assumed, entered, initial_term, initial_state, with_set, after, nothing};
 
-use crate::answer::LimitWord;
 use crate::derivation::{fact_of, term_at};
 use crate::notes::Formula;
 use crate::state::{Fact, Stack, State, Term};
 use crate::stop::{Stop, Why};
 use std::alloc;
 use wasm_syntax::{Global, Instr, Plain};
-use wasm_values::{List, Val};
+use wasm_values::{LimitWord, List, Val};
 
 const MAX_VARIABLES: u32 = 1_000_000;
 

@@ -15,7 +15,7 @@ mod stop;
 mod tests;
 mod walk;
 
-pub use answer::{Answer, CheckFault, LimitWord, Reason};
+pub use answer::{Answer, CheckFault, Reason};
 pub use check::check_module;
 pub use laws::{derivations_are_exact, derivations_are_sound, outlines_keep_the_invariant};
 pub use notes::{

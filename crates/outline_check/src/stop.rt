@@ -1,8 +1,8 @@
 ghost use Rattle.std.specs.Prelude.{◌≡◌};
 ghost use Rattle.outline_check.specs.declared.stop.Stop.TheVariants.{OutOfMemory};
 
-use crate::answer::{LimitWord, Reason};
-use wasm_values::OutOfMemory;
+use crate::answer::Reason;
+use wasm_values::{LimitWord, OutOfMemory};
 
 /// Why a part of the check refuses.
 #[derive(Clone, Copy, Debug, PartialEq, Eq)]

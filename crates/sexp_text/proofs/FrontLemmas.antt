@@ -6,7 +6,7 @@ use Rattle.std.proofs.lemmas.Grind.{flat_map-append}
 use Rattle.std.proofs.lemmas.List.{append-nil}
 use Rattle.sexp_text.specs.declared.fault.TextFault.TheVariants.{Refused, Limit}
 use Rattle.sexp_text.specs.declared.fault.TextWord.TheVariants as word
-use Rattle.sexp_text.specs.declared.fault.LimitWord.TheVariants.{Nesting}
+use Rattle.wasm_values.specs.declared.limit.LimitWord.TheVariants.{Nesting}
 use Rattle.sexp_text.specs.declared.sexp.Node.{Row_of-Sexp, end_of-Sexp, more_of-Sexp, items-the_row-Sexp, items_hidden-the_row-Sexp-0}
 use Rattle.sexp_text.specs.declared.sexp.Node.TheBlock.{hidden-the_row-Sexp-0}
 use Rattle.sexp_text.specs.declared.sexp.Node.TheVariants as node

@@ -11,7 +11,7 @@ use Rattle.std.specs.List.{AllByRecursion, prefix_len}
 use Rattle.sexp_text.specs.declared.fault.TextFault.{TextFault}
 use Rattle.sexp_text.specs.declared.fault.TextFault.TheVariants.{Refused, Limit}
 use Rattle.sexp_text.specs.declared.fault.TextWord.TheVariants as word
-use Rattle.sexp_text.specs.declared.fault.LimitWord.TheVariants.{Nesting}
+use Rattle.wasm_values.specs.declared.limit.LimitWord.TheVariants.{Nesting}
 use Rattle.sexp_text.specs.declared.reader.Mode.{Mode}
 use Rattle.sexp_text.specs.declared.reader.Mode.TheVariants.{Between, Comment, Run, Quoted, Escape, Digit}
 use Rattle.sexp_text.specs.declared.reader.OpenList.{OpenList}

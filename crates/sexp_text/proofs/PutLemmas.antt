@@ -5,7 +5,7 @@ use Rattle.std.proofs.lemmas.List.{append-nil}
 use Rattle.sexp_text.specs.declared.fault.TextFault.{TextFault}
 use Rattle.sexp_text.specs.declared.fault.TextFault.TheVariants.{Limit}
 use Rattle.sexp_text.specs.declared.fault.TextWord.TheVariants as word
-use Rattle.sexp_text.specs.declared.fault.LimitWord.TheVariants.{Nesting}
+use Rattle.wasm_values.specs.declared.limit.LimitWord.TheVariants.{Nesting}
 use Rattle.sexp_text.specs.declared.sexp.Node.{Node, Num, Word, Str, List', Row_of-Sexp, end_of-Sexp, more_of-Sexp}
 use Rattle.sexp_text.specs.declared.sexp.Sexp.{Sexp}
 use Rattle.sexp_text.specs.Items.{Item, Open, Close, Number, Name, Quote, node_items, row_items, items_of}

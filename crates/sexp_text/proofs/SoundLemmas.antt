@@ -10,7 +10,7 @@ use Rattle.std.specs.Str.{is_utf8, IsUtf8}
 use Rattle.sexp_text.specs.declared.fault.TextFault.{TextFault}
 use Rattle.sexp_text.specs.declared.fault.TextFault.TheVariants.{Limit}
 use Rattle.sexp_text.specs.declared.fault.TextWord.TheVariants as word
-use Rattle.sexp_text.specs.declared.fault.LimitWord.TheVariants.{Nesting}
+use Rattle.wasm_values.specs.declared.limit.LimitWord.TheVariants.{Nesting}
 use Rattle.sexp_text.specs.declared.reader.Mode.{Mode}
 use Rattle.sexp_text.specs.declared.reader.Mode.TheVariants.{Between, Comment, Run, Quoted, Escape, Digit}
 use Rattle.sexp_text.specs.Bytes.{is_white, is_run, is_plain, is_hex, hex_value}

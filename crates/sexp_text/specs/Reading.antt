@@ -8,7 +8,7 @@ use Rattle.sexp_text.specs.declared.fault.TextFault.{TextFault}
 use Rattle.sexp_text.specs.declared.fault.TextFault.TheVariants.{Refused, Limit, OutOfMemory}
 use Rattle.sexp_text.specs.declared.fault.TextWord.{TextWord}
 use Rattle.sexp_text.specs.declared.fault.TextWord.TheVariants as word
-use Rattle.sexp_text.specs.declared.fault.LimitWord.TheVariants.{Nesting}
+use Rattle.wasm_values.specs.declared.limit.LimitWord.TheVariants.{Nesting}
 use Rattle.sexp_text.specs.declared.reader.Mode.{Mode}
 use Rattle.sexp_text.specs.declared.reader.Mode.TheVariants.{Between, Comment, Run, Quoted, Escape, Digit}
 use Rattle.sexp_text.specs.Bytes.{is_between, is_white, is_letter, is_digit, is_name_byte, is_sign, is_run, is_plain, is_hex, hex_value}

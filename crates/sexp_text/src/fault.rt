@@ -1,7 +1,7 @@
 ghost use Rattle.std.specs.Prelude.{◌≡◌};
 
 use thiserror::Error;
-use wasm_values::OutOfMemory;
+use wasm_values::{LimitWord, OutOfMemory};
 
 /// Why a text is refused.
 #[derive(Clone, Copy, Debug, PartialEq, Eq)]
@@ -24,27 +24,6 @@ pub enum TextWord {
     Form,
     /// A name that is made twice, or that nothing makes.
     Name,
-}
-
-/// A quantity that has a greatest value.
-#[derive(Clone, Copy, Debug, PartialEq, Eq)]
-pub enum LimitWord {
-    Module,
-    Notes,
-    Script,
-    Types,
-    Imports,
-    Functions,
-    Globals,
-    Params,
-    Locals,
-    Nesting,
-    Nodes,
-    State,
-    Facts,
-    Chunks,
-    Variables,
-    Derivation,
 }
 
 /// Why a text is not read. `at` is the place of the first fault.

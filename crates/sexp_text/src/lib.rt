@@ -13,7 +13,7 @@ mod step;
 #[cfg(test)]
 mod tests;
 
-pub use fault::{LimitWord, TextFault, TextWord};
+pub use fault::{TextFault, TextWord};
 pub use laws::{longest_reading, longest_word, one_value, printed_again, printed_alike};
 pub use print::print_sexp;
 pub use read::read_sexp;

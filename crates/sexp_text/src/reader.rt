@@ -5,10 +5,10 @@ ghost use Rattle.sexp_text.specs.Items.{items_of};
 ghost use Rattle.sexp_text.specs.Reading.{Gives, opened, closed, added};
 ghost use Rattle.sexp_text.specs.Fronts.{front_of};
 
-use crate::fault::{LimitWord, TextFault, TextWord};
+use crate::fault::{TextFault, TextWord};
 use crate::sexp::{Node, Sexp};
 use std::alloc::Global;
-use wasm_values::{Bytes, List};
+use wasm_values::{Bytes, LimitWord, List};
 
 /// The most lists that are open at once.
 const MAX_NESTING: usize = 500;

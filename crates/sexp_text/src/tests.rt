@@ -1,6 +1,7 @@
-use super::{LimitWord, TextFault, TextWord, print_sexp, read_sexp};
+use super::{TextFault, TextWord, print_sexp, read_sexp};
 use std::alloc::{AllocError, Global};
 use std::test::Fail;
+use wasm_values::LimitWord;
 
 // Texts, and what is printed of their values.
 const READ: [(&[u8], &[u8]); 8] = [

@@ -21,7 +21,8 @@ use Rattle.wasm_store.specs.declared.store.GlobalInst.{GlobalInst}
 use Rattle.wasm_store.specs.declared.store.Store.{Store}
 use Rattle.wasm_store.specs.Configuration.{Activation, Layer, Configuration, going, trapped, address_in}
 use Rattle.wasm_store.specs.Numeric.{computed, NumOneStep, NumTwoStep, DropStep, SelectStep, LocalGetStep, LocalSetStep, LocalTeeStep, with_global, GlobalGetStep, GlobalSetStep}
-use Rattle.wasm_store.specs.Memory.{loaded_type, bytes_loaded, value_loaded, stored_type, bytes_stored, items_at, overwritten, is_within, pages_of, with_bytes, can_grow, grown_bytes, LoadStep, StoreStep, SizeStep, GrowStep, grown}
+use Rattle.wasm_syntax.specs.Accesses.{loaded_type, bytes_loaded, stored_type, bytes_stored}
+use Rattle.wasm_store.specs.Memory.{value_loaded, items_at, overwritten, is_within, pages_of, with_bytes, can_grow, grown_bytes, LoadStep, StoreStep, SizeStep, GrowStep, grown}
 use Rattle.wasm_store.specs.Control.{Leaves, Branches, BranchesIf, BrIfStep, BrTableStep}
 use Rattle.type_safety.specs.Shapes.{types, HaveTypes, Shape, shape_of}
 use Rattle.type_safety.specs.Stores.{MemoryTyped, GlobalTyped, StoreTyped}

@@ -22,7 +22,6 @@ use Rattle.type_safety.specs.Stores.{StoreTyped}
 use Rattle.type_safety.specs.Frames.{CodeTyped, AgainTyped, BlocksTyped, FrameTyped, LayersTyped}
 use Rattle.type_safety.specs.Typed.{Typed}
 use Rattle.type_safety.specs.Safety.{Preservation}
-use Rattle.type_safety.proofs.Ranges.{load_type-is, store_type-is}
 use Rattle.type_safety.proofs.Frames.{goes_on, going_typed, trapped_typed, leaves_typed}
 use Rattle.type_safety.proofs.Keeping as keep
 use Rattle.type_safety.proofs.Calling.{keeps_call, keeps_call_indirect}
@@ -103,8 +102,8 @@ module _ (s : Store) (store : StoreTyped s) (f : Activation) (results : Types) (
     keeps grows (tree.LocalTee x) i r h = keep.keeps_local_tee s store f results t below layers d rest mid typed range x i.0 i.2.0 i.1 i.2.1 i.2.2 h
     keeps grows (tree.GlobalGet x) i r h = keep.keeps_global_get s store f results t below layers d rest mid typed range x i.0 i.2.0 i.1 i.2.1 i.2.2 h
     keeps grows (tree.GlobalSet x) i r h = keep.keeps_global_set s store f results t below layers d rest mid typed range x i.0 i.3.0 i.1 i.3.1 i.3.2 h
-    keeps grows (tree.Load op align offset) i r h = keep.keeps_load s store f results t below layers d rest mid typed range op offset i.2.0 i.2.1 (i.2.2 ∙ ap (λ x. x ∷ i.2.0) (load_type-is op)) h
-    keeps grows (tree.Store op align offset) i r h = keep.keeps_store s store f results t below layers d rest mid typed range op offset i.2.0 (i.2.1 ∙ ap (λ x. x ∷ I32 ∷ i.2.0) (store_type-is op)) i.2.2 h
+    keeps grows (tree.Load op align offset) i r h = keep.keeps_load s store f results t below layers d rest mid typed range op offset i.2.0 i.2.1 i.2.2 h
+    keeps grows (tree.Store op align offset) i r h = keep.keeps_store s store f results t below layers d rest mid typed range op offset i.2.0 i.2.1 i.2.2 h
     keeps grows (tree.Block ty body) i r h =
         opens ty body f.operands t.own (count_of ty) None (types_of ty) t.ranges t.split (length-types_of ty) refl (i.0, r) (i.1.2 ∙ ap (λ x. types_of ty ++ x) (sym i.1.1)) h
     keeps grows (tree.Loop ty body) i r h =

@@ -21,7 +21,8 @@ use Rattle.wasm_store.specs.declared.store.Store.{Store}
 use Rattle.wasm_store.specs.Configuration.{OpenBlock, Activation, Layer, OfCode, OfHost, Configuration, going, trapped, with_operands, pushed, address_in}
 use Rattle.wasm_store.specs.Seen.{func_in, func_of}
 use Rattle.wasm_store.specs.Numeric.{NumOneStep, NumTwoStep, DropStep, SelectStep, LocalGetStep, LocalSetStep, LocalTeeStep, GlobalGetStep, GlobalSetStep}
-use Rattle.wasm_store.specs.Memory.{LoadStep, StoreStep, SizeStep, GrowStep, stored_type}
+use Rattle.wasm_syntax.specs.Accesses.{stored_type}
+use Rattle.wasm_store.specs.Memory.{LoadStep, StoreStep, SizeStep, GrowStep}
 use Rattle.wasm_store.specs.Control.{type_of_inst, given_to, Leaves, IfStep, Closes, jumped, Branches, BranchesIf, BrIfStep, BrTableStep, EntersInst, CallStep, CallsInst, CallsEntry, entry_at, CallIndirectStep, is_same_func_type}
 use Rattle.wasm_store.specs.Step.{PlainStep, InstructionStep, Moves, TopMoves}
 use Rattle.wasm_store.proofs.TypeLaws.{types-eq}

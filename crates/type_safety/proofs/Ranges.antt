@@ -13,8 +13,8 @@ use Rattle.wasm_syntax.specs.declared.instr.LoadOp.TheVariants as load
 use Rattle.wasm_typing.specs.Valid.{ValInRange}
 use Rattle.wasm_syntax.specs.declared.instr.StoreOp.{StoreOp}
 use Rattle.wasm_syntax.specs.declared.instr.StoreOp.TheVariants as store
-use Rattle.wasm_typing.specs.Typing.{load_type, store_type}
-use Rattle.wasm_store.specs.Memory.{loaded_type, bytes_loaded, value_loaded, stored_type}
+use Rattle.wasm_syntax.specs.Accesses.{loaded_type, bytes_loaded}
+use Rattle.wasm_store.specs.Memory.{value_loaded}
 
 pub type_of-value_of : (ty : ValType) (n : ℕ) → type_of (value_of ty n) ≡ ty
 type_of-value_of I32 n = refl
@@ -70,28 +70,3 @@ loaded_in_range load.I64Load16S bytes all h = sign_extended-lt 16 64 (number_of_
 loaded_in_range load.I64Load16U bytes all h = narrow (number_of_bytes bytes) (256 ^ 2) (2 ^ 64) (number_below bytes 2 all h) (omega arith)
 loaded_in_range load.I64Load32S bytes all h = sign_extended-lt 32 64 (number_of_bytes bytes) (omega arith) (omega arith) (number_below bytes 4 all h)
 loaded_in_range load.I64Load32U bytes all h = narrow (number_of_bytes bytes) (256 ^ 4) (2 ^ 64) (number_below bytes 4 all h) (omega arith)
-
--- ---- the validator's types of loads and stores
-
-pub load_type-is : (op : LoadOp) → load_type op ≡ loaded_type op
-load_type-is load.I32Load = refl
-load_type-is load.I64Load = refl
-load_type-is load.I32Load8S = refl
-load_type-is load.I32Load8U = refl
-load_type-is load.I32Load16S = refl
-load_type-is load.I32Load16U = refl
-load_type-is load.I64Load8S = refl
-load_type-is load.I64Load8U = refl
-load_type-is load.I64Load16S = refl
-load_type-is load.I64Load16U = refl
-load_type-is load.I64Load32S = refl
-load_type-is load.I64Load32U = refl
-
-pub store_type-is : (op : StoreOp) → store_type op ≡ stored_type op
-store_type-is store.I32Store = refl
-store_type-is store.I64Store = refl
-store_type-is store.I32Store8 = refl
-store_type-is store.I32Store16 = refl
-store_type-is store.I64Store8 = refl
-store_type-is store.I64Store16 = refl
-store_type-is store.I64Store32 = refl

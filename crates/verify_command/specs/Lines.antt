@@ -3,12 +3,10 @@ use Rattle.std.specs.Prelude.{ℕ, ◌+◌, ◌/◌, ◌%◌, List, [], ◌∷�
 use Rattle.std.specs.Fmt.{decimal}
 use Rattle.outline_check.specs.declared.answer.Reason.{Reason}
 use Rattle.outline_check.specs.declared.answer.Reason.TheVariants as reason
-use Rattle.outline_check.specs.declared.answer.LimitWord.{LimitWord}
-use Rattle.outline_check.specs.declared.answer.LimitWord.TheVariants as word
+use Rattle.wasm_values.specs.declared.limit.LimitWord.{LimitWord}
+use Rattle.wasm_values.specs.declared.limit.LimitWord.TheVariants as word
 use Rattle.binary_grammar.specs.declared.fault.DecodeWord.{DecodeWord}
 use Rattle.binary_grammar.specs.declared.fault.DecodeWord.TheVariants as decode
-use Rattle.binary_grammar.specs.declared.fault.LimitWord as bounds
-use Rattle.binary_grammar.specs.declared.fault.LimitWord.TheVariants as bound
 use Rattle.wasm_typing.specs.declared.fault.ValidWord.{ValidWord}
 use Rattle.wasm_typing.specs.declared.fault.ValidWord.TheVariants as valid
 
@@ -58,25 +56,6 @@ limit_text word.Chunks = codes "chunks"
 limit_text word.Variables = codes "variables"
 limit_text word.Derivation = codes "derivation"
 
--- The words of the decoder's limits.
-abbrev pub bound_text : bounds.LimitWord → List ℕ
-bound_text bound.Module = codes "module"
-bound_text bound.Notes = codes "notes"
-bound_text bound.Script = codes "script"
-bound_text bound.Types = codes "types"
-bound_text bound.Imports = codes "imports"
-bound_text bound.Functions = codes "functions"
-bound_text bound.Globals = codes "globals"
-bound_text bound.Params = codes "params"
-bound_text bound.Locals = codes "locals"
-bound_text bound.Nesting = codes "nesting"
-bound_text bound.Nodes = codes "nodes"
-bound_text bound.State = codes "state"
-bound_text bound.Facts = codes "facts"
-bound_text bound.Chunks = codes "chunks"
-bound_text bound.Variables = codes "variables"
-bound_text bound.Derivation = codes "derivation"
-
 -- The words of the decoder's faults.
 abbrev pub decode_text : DecodeWord → List ℕ
 decode_text decode.End = codes "end"
@@ -115,12 +94,9 @@ failed_line at function reason = line (codes "failed: " ++ (reason_text reason +
 abbrev pub word_line : List ℕ → List ℕ → ℕ → List ℕ
 word_line cause word at = line (cause ++ (codes ": " ++ (word ++ (codes " at " ++ place_text at))))
 
--- `limit: WORD at PLACE`, of the outline and of the decoder
+-- `limit: WORD at PLACE`
 abbrev pub limit_line : LimitWord → ℕ → List ℕ
 limit_line w = word_line (codes "limit") (limit_text w)
-
-abbrev pub bound_line : bounds.LimitWord → ℕ → List ℕ
-bound_line w = word_line (codes "limit") (bound_text w)
 
 -- `malformed: WORD at PLACE`
 abbrev pub malformed_line : DecodeWord → ℕ → List ℕ

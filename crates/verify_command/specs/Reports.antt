@@ -12,7 +12,7 @@ use Rattle.wasm_typing.specs.declared.fault.ValidWord.{ValidWord}
 use Rattle.wasm_typing.specs.Valid.{Valid}
 use Rattle.wasm_typing.specs.Faults.{InvalidAt}
 use Rattle.rw_edge.specs.Files.{contents_of}
-use Rattle.outline_check.specs.declared.answer.LimitWord.TheVariants as word
+use Rattle.wasm_values.specs.declared.limit.LimitWord.TheVariants as word
 use Rattle.outline_check.specs.declared.notes.Notes.{Notes}
 use Rattle.outline_check.specs.First.{IsFirst}
 use Rattle.outline_check.specs.Refusals.{Outline}
@@ -23,7 +23,7 @@ use Rattle.module_listing.specs.Listing.{listing_text}
 use Rattle.verify_command.specs.declared.status.Status.{Status}
 use Rattle.verify_command.specs.declared.status.Status.TheVariants as status
 use Rattle.verify_command.specs.declared.report.Report as reports
-use Rattle.verify_command.specs.Lines.{line, failed_line, limit_line, bound_line, malformed_line, invalid_line}
+use Rattle.verify_command.specs.Lines.{line, failed_line, limit_line, malformed_line, invalid_line}
 
 -- A report is a text and a status.
 pub record Report : Type 0 where
@@ -85,7 +85,7 @@ noted m k (Some notes) = outlined (outline m k notes)
 -- The bytes' fault: they are malformed, or a limit of the decoder is passed.
 abbrev pub IsFaultReport : DecodeFault → Report → Type 0
 IsFaultReport (decode.Malformed at w) r = r ≡ record { text = malformed_line w at; status = status.Negative }
-IsFaultReport (decode.Limit at w) r = r ≡ record { text = bound_line w at; status = status.Limit }
+IsFaultReport (decode.Limit at w) r = r ≡ record { text = limit_line w at; status = status.Limit }
 IsFaultReport decode.OutOfMemory r = ⊥
 
 -- The first fault of a module that isn't valid.

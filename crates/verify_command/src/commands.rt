@@ -12,9 +12,9 @@ use crate::line::{limit_text, word_line};
 use crate::report::{Report, Stop};
 use crate::stages::{checked, shown};
 use crate::status::Status;
-use outline_check::LimitWord;
 use rw_edge::{ReadFault, Shelf, read_file};
 use std::alloc::{AllocError, Global};
+use wasm_values::LimitWord;
 
 /// The most bytes of a module file.
 const MODULE_LIMIT: usize = 4_194_304;

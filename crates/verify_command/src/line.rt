@@ -1,12 +1,13 @@
 // The lines of a report.
 
 ghost use Rattle.std.specs.Prelude.{◌≡◌, ◌++◌, ◌∷◌, [], ◌/◌, OnOk, IfOk};
-ghost use Rattle.verify_command.specs.Lines.{hex_digit, place_text, reason_text, limit_text, bound_text, decode_text, valid_text, function_text, failed_line, word_line};
+ghost use Rattle.verify_command.specs.Lines.{hex_digit, place_text, reason_text, limit_text, decode_text, valid_text, function_text, failed_line, word_line};
 
 use binary_grammar::DecodeWord;
-use outline_check::{LimitWord, Reason};
+use outline_check::Reason;
 use std::alloc::{AllocError, Global};
 use wasm_validate::ValidWord;
+use wasm_values::LimitWord;
 
 fn hex_digit(n: usize) -> u8
     ensures { result ≡ hex_digit n }
@@ -74,30 +75,6 @@ pub fn limit_text(word: LimitWord) -> &'static [u8]
         LimitWord::Chunks => b"chunks",
         LimitWord::Variables => b"variables",
         LimitWord::Derivation => b"derivation",
-    }
-}
-
-/// The words of the decoder's limits.
-pub fn bound_text(word: binary_grammar::LimitWord) -> &'static [u8]
-    ensures { result.now ≡ bound_text word }
-{
-    match word {
-        binary_grammar::LimitWord::Module => b"module",
-        binary_grammar::LimitWord::Notes => b"notes",
-        binary_grammar::LimitWord::Script => b"script",
-        binary_grammar::LimitWord::Types => b"types",
-        binary_grammar::LimitWord::Imports => b"imports",
-        binary_grammar::LimitWord::Functions => b"functions",
-        binary_grammar::LimitWord::Globals => b"globals",
-        binary_grammar::LimitWord::Params => b"params",
-        binary_grammar::LimitWord::Locals => b"locals",
-        binary_grammar::LimitWord::Nesting => b"nesting",
-        binary_grammar::LimitWord::Nodes => b"nodes",
-        binary_grammar::LimitWord::State => b"state",
-        binary_grammar::LimitWord::Facts => b"facts",
-        binary_grammar::LimitWord::Chunks => b"chunks",
-        binary_grammar::LimitWord::Variables => b"variables",
-        binary_grammar::LimitWord::Derivation => b"derivation",
     }
 }
 

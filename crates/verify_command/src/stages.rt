@@ -5,7 +5,7 @@ ghost use Rattle.verify_command.specs.Reports.{IsFaultReport, OfModule, OfChecke
 ghost use Rattle.verify_command.specs.Outcomes.{IsSpoken};
 ghost use Rattle.wasm_typing.specs.Faults.{Marked};
 
-use crate::line::{bound_text, decode_text, valid_text, word_line};
+use crate::line::{decode_text, limit_text, valid_text, word_line};
 use crate::report::{Report, Stop, fixed, negative};
 use crate::status::Status;
 use binary_grammar::{DecodeFault, Decoded};
@@ -27,7 +27,7 @@ pub fn faulty(alloc: Global, fault: DecodeFault) -> Result<Report, Stop>
             Ok(negative(text))
         }
         DecodeFault::Limit { at, word } => Ok(Report {
-            text: word_line(alloc, b"limit", bound_text(word), at)?,
+            text: word_line(alloc, b"limit", limit_text(word), at)?,
             status: Status::Limit,
         }),
         DecodeFault::OutOfMemory => Err(Stop::Memory),

@@ -8,10 +8,10 @@ use crate::entries::Entry;
 use crate::instrs::read_item;
 use crate::read::{malformed, place, read_end, read_number, read_region};
 use crate::types::read_value_type;
-use binary_grammar::{Body, DecodeFault, DecodeWord, LimitWord};
+use binary_grammar::{Body, DecodeFault, DecodeWord};
 use std::alloc::Global;
 use wasm_syntax::{Code, CodeMaker, Flat, Head, Instr, MAX_ITEMS};
-use wasm_values::{List, OutOfMemory, ValType};
+use wasm_values::{LimitWord, List, OutOfMemory, ValType};
 
 const MAX_NESTING: usize = 100;
 

@@ -1,12 +1,12 @@
 ghost use Rattle.std.specs.Prelude.{◌≡◌, ◌≤◌, ◌-◌, ◌<◌, ℕ, List, length, IfOk};
-ghost use Rattle.binary_grammar.specs.declared.fault.LimitWord.{LimitWord};
+ghost use Rattle.wasm_values.specs.declared.limit.LimitWord.{LimitWord};
 ghost use Rattle.binary_grammar.specs.Reading.{Gives, Reader, place, number_at, entries_at, vector_at, limited_at, list_at};
 
 use crate::read::{place, read_number};
-use binary_grammar::{DecodeFault, LimitWord};
+use binary_grammar::DecodeFault;
 use std::alloc::Global;
 use wasm_syntax::MAX_ITEMS;
-use wasm_values::List;
+use wasm_values::{LimitWord, List};
 
 /// An entry of a vector.
 pub(crate) trait Entry: Drop {

@@ -8,10 +8,10 @@ use crate::entries::read_list;
 use crate::leb::{take_s32, take_s64};
 use crate::read::{malformed, number_fault, place, read_byte, read_number};
 use crate::types::{read_block_type, read_tag};
-use binary_grammar::{DecodeFault, DecodeWord, LimitWord};
+use binary_grammar::{DecodeFault, DecodeWord};
 use std::alloc::Global;
 use wasm_syntax::{Flat, Instr, Kind, MAX_ITEMS, Opcode, Plain, opcode};
-use wasm_values::{Val, ValType};
+use wasm_values::{LimitWord, Val, ValType};
 
 #[tactic(auto, unfolding(binary_grammar::specs::CodeReading::word32_at, binary_grammar::specs::Reading::then_at, binary_grammar::specs::Reading::done_at, binary_grammar::specs::Reading::of_byte, binary_grammar::specs::Reading::tagged_at))]
 fn read_word32(bytes: &[u8], end: usize) -> Result<(u32, &[u8]), DecodeFault>

@@ -12,6 +12,6 @@ mod sections;
 mod tests;
 mod types;
 
-pub use binary_grammar::{DecodeFault, DecodeWord, Decoded, LebFault, LimitWord};
+pub use binary_grammar::{DecodeFault, DecodeWord, Decoded, LebFault};
 pub use decoder::decode;
 pub use leb::{read_s32, read_s64, read_u32};

@@ -11,10 +11,10 @@ use crate::read::{
     read_region,
 };
 use crate::types::{read_global_type, read_limits, read_table_type};
-use binary_grammar::{DecodeFault, DecodeWord, LimitWord, Section};
+use binary_grammar::{DecodeFault, DecodeWord, Section};
 use std::alloc::Global;
 use wasm_syntax::{Elem, Limits, MAX_ITEMS, Segment};
-use wasm_values::List;
+use wasm_values::{LimitWord, List};
 
 const MAX_ENTRIES: u32 = 10_000;
 

@@ -5,12 +5,12 @@ ghost use Rattle.binary_grammar.specs.TypeReading.{value_type_of, value_type_at,
 
 use crate::entries::{Entry, read_limited, read_list};
 use crate::read::{malformed, place, read_byte, read_name, read_number};
-use binary_grammar::{DecodeFault, DecodeWord, LimitWord};
+use binary_grammar::{DecodeFault, DecodeWord};
 use std::alloc::Global;
 use wasm_syntax::{
     Export, ExportKind, FuncType, GlobalType, Import, ImportKind, Limits, MAX_ITEMS,
 };
-use wasm_values::ValType;
+use wasm_values::{LimitWord, ValType};
 
 const MAX_PARAMS: u32 = 1_000;
 

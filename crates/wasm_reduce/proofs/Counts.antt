@@ -13,7 +13,8 @@ use Rattle.wasm_store.specs.declared.store.MemInst.{MemInst}
 use Rattle.wasm_store.specs.declared.store.Store.{Store}
 use Rattle.wasm_store.specs.Configuration.{OpenBlock, Activation, Layer, OfCode, OfHost, Configuration, with_operands}
 use Rattle.wasm_store.specs.Numeric.{computed, NumOneStep, NumTwoStep}
-use Rattle.wasm_store.specs.Memory.{loaded, bytes_loaded, stored, bytes_stored, is_within, grown}
+use Rattle.wasm_syntax.specs.Accesses.{bytes_loaded, bytes_stored}
+use Rattle.wasm_store.specs.Memory.{loaded, stored, is_within, grown}
 use Rattle.wasm_store.specs.Control.{type_of_inst, given_to, Leaves, Closes, Branches, BranchesIf, EntersInst, Enters}
 use Rattle.wasm_store.specs.Step.{PlainStep, InstructionStep, Moves}
 use Rattle.wasm_reduce.specs.declared.policy.Policy.{Policy}

@@ -21,7 +21,8 @@ use Rattle.wasm_store.specs.declared.store.TableInst.{TableInst}
 use Rattle.wasm_store.specs.declared.store.Store.{Store}
 use Rattle.wasm_store.specs.Configuration.{OpenBlock, Activation, Layer, OfCode, OfHost, Configuration, going, with_operands, pushed}
 use Rattle.wasm_store.specs.Numeric.{computed, NumOneStep, NumTwoStep, DropStep, SelectStep, LocalGetStep, LocalSetStep, LocalTeeStep, GlobalGetStep, GlobalSetStep, with_local, with_global}
-use Rattle.wasm_store.specs.Memory.{pages_of, loaded, stored, stored_type, grown, LoadStep, StoreStep, SizeStep, GrowStep}
+use Rattle.wasm_syntax.specs.Accesses.{stored_type}
+use Rattle.wasm_store.specs.Memory.{pages_of, loaded, stored, grown, LoadStep, StoreStep, SizeStep, GrowStep}
 use Rattle.wasm_store.specs.Control.{type_of_inst, given_to, Leaves, count_of, opened, chosen, IfStep, Closes, Branches, BranchesIf, BrIfStep, BrTableStep, entered, arguments, without_arguments, EntersInst, Enters, CallStep, CallsInst, CallsEntry, entry_at, is_same_func_type, CallIndirectStep}
 use Rattle.wasm_store.specs.Step.{PlainStep, InstructionStep, Moves, TopMoves, StepBy}
 use Rattle.wasm_reduce.proofs.Numbers.{number_of-value_of}

@@ -5,7 +5,7 @@ use Rattle.wasm_syntax.specs.declared.instr.LoadOp.{LoadOp}
 use Rattle.wasm_syntax.specs.declared.instr.LoadOp.TheVariants as load
 use Rattle.wasm_values.specs.Operators.{width_of, number_of_bytes}
 use Rattle.wasm_values.proofs.ByteLaws.{number_of_bytes-lt}
-use Rattle.wasm_store.specs.Memory.{bytes_loaded, loaded_type}
+use Rattle.wasm_syntax.specs.Accesses.{bytes_loaded, loaded_type}
 
 -- What the widths of a load have to do with one another.
 pub record Widths (op : LoadOp) : Type 0 where

@@ -2,53 +2,16 @@
 
 ghost use Rattle.std.specs.Prelude.{◌≡◌, ℕ, ◌+◌, ◌*◌, ◌/◌, ◌^◌, ◌<◌, ◌≤◌, ◌&&◌, true, false, nat_le, if◌then◌else◌, List, ◌++◌, length, replicate, slice_get, slice_set, sum_by, Some, None, MatchOption, IsTrue, OnOk, OnErr};
 ghost use Rattle.wasm_values.specs.Operators.{width_of, sign_extended, number_of_bytes, bytes_of_number};
-ghost use Rattle.wasm_store.specs.Memory.{bytes_loaded, bytes_stored, loaded_type, is_signed_load, value_loaded, items_at, overwritten, is_within, pages_of, can_grow, is_at_most, grown_bytes};
+ghost use Rattle.wasm_syntax.specs.Accesses.{bytes_loaded, loaded_type};
+ghost use Rattle.wasm_store.specs.Memory.{is_signed_load, value_loaded, items_at, overwritten, is_within, pages_of, can_grow, is_at_most, grown_bytes};
 ghost use Rattle.wasm_store.specs.declared.store.MemInst.{MemInst};
 
 use crate::policy::Policy;
 use std::alloc::Global;
 use std::mem;
 use wasm_store::MemInst;
-use wasm_syntax::{LoadOp, StoreOp};
+use wasm_syntax::{LoadOp, bytes_loaded, loaded_type};
 use wasm_values::{Bytes, List, OutOfMemory, Val, ValType, load_le, sext, store_le};
-
-/// How many bytes a load reads.
-pub fn bytes_loaded(op: LoadOp) -> usize
-    ensures value { result ≡ bytes_loaded op }
-    ensures few { result ≤ 8 }
-{
-    match op {
-        LoadOp::I32Load8S | LoadOp::I32Load8U | LoadOp::I64Load8S | LoadOp::I64Load8U => 1,
-        LoadOp::I32Load16S | LoadOp::I32Load16U | LoadOp::I64Load16S | LoadOp::I64Load16U => 2,
-        LoadOp::I32Load | LoadOp::I64Load32S | LoadOp::I64Load32U => 4,
-        LoadOp::I64Load => 8,
-    }
-}
-
-/// How many bytes a store writes.
-pub fn bytes_stored(op: StoreOp) -> usize
-    ensures value { result ≡ bytes_stored op }
-    ensures few { result ≤ 8 }
-{
-    match op {
-        StoreOp::I32Store8 | StoreOp::I64Store8 => 1,
-        StoreOp::I32Store16 | StoreOp::I64Store16 => 2,
-        StoreOp::I32Store | StoreOp::I64Store32 => 4,
-        StoreOp::I64Store => 8,
-    }
-}
-
-/// The type of what a load gives.
-fn loaded_type(op: LoadOp) -> ValType
-    ensures { result ≡ loaded_type op }
-{
-    match op {
-        LoadOp::I32Load => ValType::I32,
-        LoadOp::I32Load8S | LoadOp::I32Load8U => ValType::I32,
-        LoadOp::I32Load16S | LoadOp::I32Load16U => ValType::I32,
-        _ => ValType::I64,
-    }
-}
 
 /// Whether a load extends what it reads by its sign.
 fn is_signed(op: LoadOp) -> bool

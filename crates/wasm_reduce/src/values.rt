@@ -10,7 +10,7 @@ ghost use Rattle.wasm_reduce.specs.Acts.{Can, Acts, SameCode, seen_in, moved_to,
 use crate::effect::Effect;
 use crate::find::{global, global_address, memory_address};
 use crate::memory::{
-    bytes_stored, grow_memory, is_within, lets_grow, page_count, value_at, write_number,
+    grow_memory, is_within, lets_grow, page_count, value_at, write_number,
 };
 use crate::operands::{
     compute_one, compute_two, is_unary, pop, pop_number, push, set_top, top_number,
@@ -18,7 +18,7 @@ use crate::operands::{
 use crate::policy::Policy;
 use std::alloc::Global;
 use wasm_store::{CodeFrame, GlobalInst, Store};
-use wasm_syntax::{LoadOp, StoreOp};
+use wasm_syntax::{LoadOp, StoreOp, bytes_stored};
 use wasm_values::{NumOp, OutOfMemory, Val};
 
 /// A numeric instruction.

@@ -14,7 +14,8 @@ use Rattle.wasm_store.specs.declared.store.MemInst.{MemInst}
 use Rattle.wasm_store.specs.declared.store.Store.{Store}
 use Rattle.wasm_store.specs.Configuration.{OpenBlock, Activation, Layer, OfCode, OfHost, Configuration, with_operands}
 use Rattle.wasm_store.specs.Numeric.{computed, NumOneStep, NumTwoStep}
-use Rattle.wasm_store.specs.Memory.{is_within, bytes_loaded, bytes_stored, grown}
+use Rattle.wasm_syntax.specs.Accesses.{bytes_loaded, bytes_stored}
+use Rattle.wasm_store.specs.Memory.{is_within, grown}
 use Rattle.wasm_store.specs.Control.{type_of_inst, given_to, Leaves, Closes, Branches, BranchesIf, EntersInst, CallsInst, CallsEntry, is_same_func_type}
 use Rattle.wasm_store.specs.Step.{PlainStep, InstructionStep, Moves, TopMoves, Step}
 

@@ -8,36 +8,12 @@ use Rattle.wasm_values.specs.Operators.{value_of, width_of, sign_extended, numbe
 use Rattle.wasm_syntax.specs.declared.instr.LoadOp.{LoadOp}
 use Rattle.wasm_syntax.specs.declared.instr.LoadOp.TheVariants as load
 use Rattle.wasm_syntax.specs.declared.instr.StoreOp.{StoreOp}
-use Rattle.wasm_syntax.specs.declared.instr.StoreOp.TheVariants as store
+use Rattle.wasm_syntax.specs.Accesses.{bytes_loaded, bytes_stored, loaded_type, stored_type}
 use Rattle.wasm_store.specs.declared.store.MemInst.{MemInst}
 use Rattle.wasm_store.specs.declared.store.Store.{Store}
 use Rattle.wasm_store.specs.Configuration.{Activation, Layer, Configuration, going, trapped, with_operands, pushed, instance_of, address_in}
 
--- ---- what loads and stores access
-
--- The type of what a load gives (section 2.4.4).
-abbrev pub loaded_type : LoadOp → ValType
-loaded_type load.I32Load = I32
-loaded_type load.I32Load8S = I32
-loaded_type load.I32Load8U = I32
-loaded_type load.I32Load16S = I32
-loaded_type load.I32Load16U = I32
-loaded_type _ = I64
-
--- How many bytes a load reads (section 2.4.4).
-abbrev pub bytes_loaded : LoadOp → ℕ
-bytes_loaded load.I32Load = 4
-bytes_loaded load.I64Load = 8
-bytes_loaded load.I32Load8S = 1
-bytes_loaded load.I32Load8U = 1
-bytes_loaded load.I32Load16S = 2
-bytes_loaded load.I32Load16U = 2
-bytes_loaded load.I64Load8S = 1
-bytes_loaded load.I64Load8U = 1
-bytes_loaded load.I64Load16S = 2
-bytes_loaded load.I64Load16U = 2
-bytes_loaded load.I64Load32S = 4
-bytes_loaded load.I64Load32U = 4
+-- ---- what loads give
 
 -- Whether a load extends what it reads by its sign (section 2.4.4).
 abbrev pub is_signed_load : LoadOp → Bool
@@ -47,23 +23,6 @@ is_signed_load load.I64Load8S = true
 is_signed_load load.I64Load16S = true
 is_signed_load load.I64Load32S = true
 is_signed_load _ = false
-
--- The type of what a store writes (section 2.4.4).
-abbrev pub stored_type : StoreOp → ValType
-stored_type store.I32Store = I32
-stored_type store.I32Store8 = I32
-stored_type store.I32Store16 = I32
-stored_type _ = I64
-
--- How many bytes a store writes (section 2.4.4).
-abbrev pub bytes_stored : StoreOp → ℕ
-bytes_stored store.I32Store = 4
-bytes_stored store.I64Store = 8
-bytes_stored store.I32Store8 = 1
-bytes_stored store.I32Store16 = 2
-bytes_stored store.I64Store8 = 1
-bytes_stored store.I64Store16 = 2
-bytes_stored store.I64Store32 = 4
 
 -- The value that a load gives for the bytes that it reads: their number, extended by its sign or by zeros (section 4.4.4).
 abbrev pub value_loaded : LoadOp → List ℕ → Val

@@ -1,6 +1,7 @@
 //! The syntax of modules, and the bytes of instructions. Sections are those of the WebAssembly Core Specification 1.0.
 #![tactic(auto)]
 
+mod access;
 mod code;
 mod flat;
 mod instr;
@@ -15,6 +16,7 @@ mod table;
 mod tests;
 mod walk;
 
+pub use access::{bytes_loaded, bytes_stored, loaded_type, stored_type};
 pub use code::Code;
 pub use flat::{Flat, Head, MAX_ITEMS};
 pub use instr::{Instr, LoadOp, Plain, StoreOp};

@@ -31,7 +31,8 @@ use Rattle.wasm_syntax.specs.declared.module.Marks.{Marks}
 use Rattle.wasm_syntax.specs.FlatForm.{flat_body}
 use Rattle.wasm_typing.specs.declared.fault.ValidWord.{ValidWord}
 use Rattle.wasm_typing.specs.declared.fault.ValidWord.TheVariants as word
-use Rattle.wasm_typing.specs.Typing.{Types, Context, load_width, store_width}
+use Rattle.wasm_syntax.specs.Accesses.{bytes_loaded, bytes_stored}
+use Rattle.wasm_typing.specs.Typing.{Types, Context}
 use Rattle.wasm_typing.specs.Open.{labels_of, parts_before, TypedThrough}
 use Rattle.wasm_typing.specs.Valid.{func_types_of, funcs_of, tables_of, memories_of, globals_of, imported_globals_of, context_of, table_import, memory_import, const_type, FuncValid}
 
@@ -191,9 +192,9 @@ conditions c labels (source.GlobalGet x) = condition (is_some (slice_get c.globa
 conditions c labels (source.GlobalSet x) =
     condition (is_some (slice_get c.globals x)) word.Index ∷ condition (is_mutable (slice_get c.globals x)) word.WrongType ∷ []
 conditions c labels (source.Load op align offset) =
-    condition (nat_lt 0 (length c.memories)) word.Index ∷ condition (nat_le (2 ^ align) (load_width op)) word.Align ∷ []
+    condition (nat_lt 0 (length c.memories)) word.Index ∷ condition (nat_le (2 ^ align) (bytes_loaded op)) word.Align ∷ []
 conditions c labels (source.Store op align offset) =
-    condition (nat_lt 0 (length c.memories)) word.Index ∷ condition (nat_le (2 ^ align) (store_width op)) word.Align ∷ []
+    condition (nat_lt 0 (length c.memories)) word.Index ∷ condition (nat_le (2 ^ align) (bytes_stored op)) word.Align ∷ []
 conditions c labels (source.Br l) = condition (is_some (slice_get labels l)) word.Label ∷ []
 conditions c labels (source.BrIf l) = condition (is_some (slice_get labels l)) word.Label ∷ []
 conditions c labels (source.BrTable ls l) = condition (are_targets labels ls (slice_get labels l)) word.Label ∷ []

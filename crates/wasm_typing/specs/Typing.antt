@@ -7,10 +7,7 @@ use Rattle.wasm_values.specs.declared.number.ValType.TheVariants.{I32, I64}
 use Rattle.wasm_values.specs.Operators.{type_of, num_operands, operand_type, result_type}
 use Rattle.wasm_syntax.specs.declared.instr.Plain.{Plain}
 use Rattle.wasm_syntax.specs.declared.instr.Plain.TheVariants.{Unreachable, Nop, Return, Drop, Select, MemorySize, MemoryGrow}
-use Rattle.wasm_syntax.specs.declared.instr.LoadOp.{LoadOp}
-use Rattle.wasm_syntax.specs.declared.instr.LoadOp.TheVariants as load
-use Rattle.wasm_syntax.specs.declared.instr.StoreOp.{StoreOp}
-use Rattle.wasm_syntax.specs.declared.instr.StoreOp.TheVariants as store
+use Rattle.wasm_syntax.specs.Accesses.{bytes_loaded, bytes_stored, loaded_type, stored_type}
 use Rattle.wasm_syntax.specs.declared.module.FuncType.{FuncType}
 use Rattle.wasm_syntax.specs.declared.module.GlobalType.{GlobalType}
 use Rattle.wasm_syntax.specs.declared.module.Limits.{Limits}
@@ -41,47 +38,6 @@ types_of (Some t) = t ∷ []
 -- The types of a numeric instruction's operands (section 3.3.1).
 abbrev pub num_takes : NumOp → Types
 num_takes op = if num_operands op == 1 then operand_type op ∷ [] else (operand_type op ∷ operand_type op ∷ [])
-
--- The type of what a load gives (section 3.3.4).
-abbrev pub load_type : LoadOp → ValType
-load_type load.I32Load = I32
-load_type load.I32Load8S = I32
-load_type load.I32Load8U = I32
-load_type load.I32Load16S = I32
-load_type load.I32Load16U = I32
-load_type _ = I64
-
--- How many bytes a load reads (section 3.3.4).
-abbrev pub load_width : LoadOp → ℕ
-load_width load.I32Load = 4
-load_width load.I64Load = 8
-load_width load.I32Load8S = 1
-load_width load.I32Load8U = 1
-load_width load.I32Load16S = 2
-load_width load.I32Load16U = 2
-load_width load.I64Load8S = 1
-load_width load.I64Load8U = 1
-load_width load.I64Load16S = 2
-load_width load.I64Load16U = 2
-load_width load.I64Load32S = 4
-load_width load.I64Load32U = 4
-
--- The type of what a store writes (section 3.3.4).
-abbrev pub store_type : StoreOp → ValType
-store_type store.I32Store = I32
-store_type store.I32Store8 = I32
-store_type store.I32Store16 = I32
-store_type _ = I64
-
--- How many bytes a store writes (section 3.3.4).
-abbrev pub store_width : StoreOp → ℕ
-store_width store.I32Store = 4
-store_width store.I64Store = 8
-store_width store.I32Store8 = 1
-store_width store.I32Store16 = 2
-store_width store.I64Store8 = 1
-store_width store.I64Store16 = 2
-store_width store.I64Store32 = 4
 
 -- Operands of the types `takes` become operands of the types `gives`, over any operands below (section 3.3.5, the rule
 -- for the last instruction of a sequence).
@@ -122,9 +78,9 @@ abbrev mutual
   InstructionTyped c labels (tree.GlobalSet x) ins outs =
       (g : GlobalType) × (slice_get c.globals x ≡ Some g) × (g.mutable ≡ true) × Turns (g.value ∷ []) [] ins outs
   InstructionTyped c labels (tree.Load op align offset) ins outs =
-      (0 < length c.memories) × (2 ^ align ≤ load_width op) × Turns (I32 ∷ []) (load_type op ∷ []) ins outs
+      (0 < length c.memories) × (2 ^ align ≤ bytes_loaded op) × Turns (I32 ∷ []) (loaded_type op ∷ []) ins outs
   InstructionTyped c labels (tree.Store op align offset) ins outs =
-      (0 < length c.memories) × (2 ^ align ≤ store_width op) × Turns (store_type op ∷ I32 ∷ []) [] ins outs
+      (0 < length c.memories) × (2 ^ align ≤ bytes_stored op) × Turns (stored_type op ∷ I32 ∷ []) [] ins outs
   InstructionTyped c labels (tree.Block ty body) ins outs =
       SequenceTyped c (types_of ty ∷ labels) body [] (types_of ty) × Turns [] (types_of ty) ins outs
   InstructionTyped c labels (tree.Loop ty body) ins outs =

@@ -18,8 +18,8 @@ returns-in-Const c =
 
 pub returns-in-Load : goal.returns-in-Load
 returns-in-Load c =
-    acts_as c.turn-in-Load.result (Are c.args.operands.now) (Are c.turn-in-Load.new.self) (Turns (I32 ∷ []) (c.type_of_load.result ∷ [])) (context_in c.args.names.now) (labels_in c.args.labels.now) c.args.instr.now (source.Load c.in-Load.op c.in-Load.field-1 c.in-Load.field-2) c.in-Load.is (same_load (context_in c.args.names.now) (labels_in c.args.labels.now) c.in-Load.op c.in-Load.field-1 c.in-Load.field-2 c.type_of_load.result c.type_of_load.ensures (ready_along (context_in c.args.names.now) (labels_in c.args.labels.now) c.args.instr.now (source.Load c.in-Load.op c.in-Load.field-1 c.in-Load.field-2) c.in-Load.is c.requires.ready)) c.turn-in-Load.ensures
+    acts_as c.turn-in-Load.result (Are c.args.operands.now) (Are c.turn-in-Load.new.self) (Turns (I32 ∷ []) (c.loaded_type.result ∷ [])) (context_in c.args.names.now) (labels_in c.args.labels.now) c.args.instr.now (source.Load c.in-Load.op c.in-Load.field-1 c.in-Load.field-2) c.in-Load.is (same_load (context_in c.args.names.now) (labels_in c.args.labels.now) c.in-Load.op c.in-Load.field-1 c.in-Load.field-2 c.loaded_type.result c.loaded_type.ensures (ready_along (context_in c.args.names.now) (labels_in c.args.labels.now) c.args.instr.now (source.Load c.in-Load.op c.in-Load.field-1 c.in-Load.field-2) c.in-Load.is c.requires.ready)) c.turn-in-Load.ensures
 
 pub returns-in-Store : goal.returns-in-Store
 returns-in-Store c =
-    acts_as c.turn-in-Store.result (Are c.args.operands.now) (Are c.turn-in-Store.new.self) (Turns (c.type_of_store.result ∷ I32 ∷ []) []) (context_in c.args.names.now) (labels_in c.args.labels.now) c.args.instr.now (source.Store c.in-Store.op c.in-Store.field-1 c.in-Store.field-2) c.in-Store.is (same_store (context_in c.args.names.now) (labels_in c.args.labels.now) c.in-Store.op c.in-Store.field-1 c.in-Store.field-2 c.type_of_store.result c.type_of_store.ensures (ready_along (context_in c.args.names.now) (labels_in c.args.labels.now) c.args.instr.now (source.Store c.in-Store.op c.in-Store.field-1 c.in-Store.field-2) c.in-Store.is c.requires.ready)) c.turn-in-Store.ensures
+    acts_as c.turn-in-Store.result (Are c.args.operands.now) (Are c.turn-in-Store.new.self) (Turns (c.stored_type.result ∷ I32 ∷ []) []) (context_in c.args.names.now) (labels_in c.args.labels.now) c.args.instr.now (source.Store c.in-Store.op c.in-Store.field-1 c.in-Store.field-2) c.in-Store.is (same_store (context_in c.args.names.now) (labels_in c.args.labels.now) c.in-Store.op c.in-Store.field-1 c.in-Store.field-2 c.stored_type.result c.stored_type.ensures (ready_along (context_in c.args.names.now) (labels_in c.args.labels.now) c.args.instr.now (source.Store c.in-Store.op c.in-Store.field-1 c.in-Store.field-2) c.in-Store.is c.requires.ready)) c.turn-in-Store.ensures

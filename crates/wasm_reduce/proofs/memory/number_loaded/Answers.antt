@@ -1,7 +1,7 @@
 use Rattle.std.proofs.Common.{◌≡◌, ◌*◌, ◌^◌, ◌<◌, ap, ◌∙◌, arith}
 use Rattle.wasm_values.specs.Operators.{width_of, sign_extended, number_of_bytes}
 use Rattle.wasm_values.proofs.RangeLaws.{sign_extended-lt}
-use Rattle.wasm_store.specs.Memory.{bytes_loaded, loaded_type}
+use Rattle.wasm_syntax.specs.Accesses.{bytes_loaded, loaded_type}
 use Rattle.wasm_reduce.proofs.Loads.{widths, number_fits}
 use Rattle.wasm_reduce.proofs.memory.number_loaded.Goals as goal
 

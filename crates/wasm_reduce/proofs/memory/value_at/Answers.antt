@@ -1,5 +1,6 @@
 use Rattle.std.proofs.Common.{◌≡◌, true, Some, None, sym, ap, ◌∙◌}
-use Rattle.wasm_store.specs.Memory.{bytes_loaded, value_loaded, items_at, is_within}
+use Rattle.wasm_syntax.specs.Accesses.{bytes_loaded}
+use Rattle.wasm_store.specs.Memory.{value_loaded, items_at, is_within}
 use Rattle.wasm_reduce.proofs.Loads.{when_true}
 use Rattle.wasm_reduce.proofs.memory.value_at.Goals as goal
 
