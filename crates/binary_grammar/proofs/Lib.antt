@@ -6,6 +6,8 @@ pub mod Follow
 pub mod CodeLaws
 pub mod BodyLaws
 pub mod SectionLaws
+pub mod Drafts
+pub mod DraftLaws
 pub mod ModuleLaws
 pub mod UniqueLaws
 pub mod ReadingLaws

@@ -16,7 +16,9 @@ use Rattle.binary_grammar.specs.declared.section.Decoded.{Decoded}
 use Rattle.binary_grammar.specs.Bounds.{Bounds}
 use Rattle.binary_grammar.specs.Reading.{◌>>=◌, place}
 use Rattle.binary_grammar.specs.SectionReading.{section_at, with_section, no_sections, sections_at, funcs_of, whole_module, finished_at, header, magic_at, header_at, module_at}
-use Rattle.binary_grammar.specs.ModuleGrammar.{id_of, SpellsSection, InTurn, InOrder, MayStand, with_sections, Spells, FuncTypeWithin, GlobalWithin, ElemWithin, SegmentWithin, FuncWithin, InLimits}
+use Rattle.binary_grammar.specs.ModuleGrammar.{id_of, SpellsSection, InTurn, Spells, FuncTypeWithin, GlobalWithin, ElemWithin, SegmentWithin, FuncWithin, InLimits}
+use Rattle.binary_grammar.proofs.Drafts.{InOrder, MayStand, with_sections, Drafted}
+use Rattle.binary_grammar.proofs.DraftLaws.{spelled, drafted}
 use Rattle.binary_grammar.proofs.NumberLaws.{chosen}
 use Rattle.binary_grammar.proofs.Exact.{ok, ok_is, bind_ok, place_after, shorter}
 use Rattle.binary_grammar.proofs.BodyLaws.{BodyWithin}
@@ -278,7 +280,7 @@ eight bytes rest e = omega (arith, ap length e, length-append header rest)
 
 -- what is read is spelled so, within the limits
 pub module_takes : (most : Bounds) (bytes : List ℕ) (r : Decoded) → module_at most bytes ≡ Ok r → Spells bytes r.module r.marks × InLimits most r.module
-unfolding module_at Spells
+unfolding module_at
 module_takes most bytes r e =
     let len = length bytes in
     let p = bind_ok (header_at len bytes) (λ rest. sections_at most (length rest) no_sections len rest >>= λ d. finished_at len d) r e in
@@ -292,20 +294,22 @@ module_takes most bytes r e =
     let counted : length d.bodies ≡ length d.declared = subst (λ (x : Draft). length x.bodies ≡ length x.declared) t.is f.counted in
     let is : whole_module len d ≡ r = ap (whole_module len) (sym t.is) ∙ f.is in
     let within = limits_in most len d counted (sections_in most no_sections t.sections (none_within most) t.within) in
-    ((t.sections, rest, parts, subst (λ at. InTurn at rest t.sections) (eight bytes rest parts) t.turn, t.stand, counted, is), subst (λ (x : Decoded). InLimits most x.module) is within)
+    let put : Drafted bytes r.module r.marks = record { sections = t.sections; rest = rest; parts = parts; turn = subst (λ at. InTurn at rest t.sections) (eight bytes rest parts) t.turn; stand = t.stand; counted = counted; is = is } in
+    (spelled bytes r.module r.marks put, subst (λ (x : Decoded). InLimits most x.module) is within)
 
 -- what is spelled so, within the limits, is read
 pub module_again : (most : Bounds) (bytes : List ℕ) (m : Module) (k : Marks) → Spells bytes m k → InLimits most m → module_at most bytes ≡ Ok (record { «module» = m; marks = k })
-unfolding module_at Spells
-module_again most bytes m k h w =
+unfolding module_at
+module_again most bytes m k spells w =
+    let h = drafted bytes m k spells in
     let len = length bytes in
-    let ss = h.0 in
-    let rest = h.1 in
+    let ss = h.sections in
+    let rest = h.rest in
     let d = with_sections no_sections ss in
-    let limits : InLimits most (made len d) = subst (λ (x : Decoded). InLimits most x.module) (sym h.6) w in
-    let all = sections_out most no_sections ss h.4 (limits_out most len d h.5 limits) in
-    let le : length rest ≤ len = omega (arith, ap length h.2, length-append header rest) in
-    let turn : InTurn (place len rest) rest ss = subst (λ at. InTurn at rest ss) (sym (eight bytes rest h.2)) h.3 in
-    let head : header_at len bytes ≡ Ok rest = ap (header_at len) h.2 ∙ header_again len rest in
-    let read = sections_again most (length rest) no_sections len rest ss le (omega arith) turn h.4 all in
-    rw (head, read) (finished_again len d h.5 ∙ ap ok h.6)
+    let limits : InLimits most (made len d) = subst (λ (x : Decoded). InLimits most x.module) (sym h.is) w in
+    let all = sections_out most no_sections ss h.stand (limits_out most len d h.counted limits) in
+    let le : length rest ≤ len = omega (arith, ap length h.parts, length-append header rest) in
+    let turn : InTurn (place len rest) rest ss = subst (λ at. InTurn at rest ss) (sym (eight bytes rest h.parts)) h.turn in
+    let head : header_at len bytes ≡ Ok rest = ap (header_at len) h.parts ∙ header_again len rest in
+    let read = sections_again most (length rest) no_sections len rest ss le (omega arith) turn h.stand all in
+    rw (head, read) (finished_again len d h.counted ∙ ap ok h.is)

@@ -19,7 +19,8 @@ use Rattle.binary_grammar.specs.CodeReading.{body_at}
 use Rattle.binary_grammar.specs.SectionReading.{global_at, elem_at, segment_at, custom_at, bodies_at, types_at, imports_at, funcs_at, tables_at, memories_at, globals_at, exports_at, start_at, elems_at, segments_at, contents_at, id_at, section_at}
 use Rattle.binary_grammar.specs.Grammar.{Spelling, Then, Done, Tagged, SpellsNumber, Many, SpellsVector, SpellsName, SpellsFuncType, SpellsLimits, SpellsTableType, SpellsImport, SpellsExport}
 use Rattle.binary_grammar.specs.CodeGrammar.{OfLength, Sized, SpellsBody, NestsAtMost}
-use Rattle.binary_grammar.specs.ModuleGrammar.{SpellsGlobal, SpellsElem, SpellsSegment, id_of, SpellsContents, SpellsSection, InOrder, Counts, FuncTypeWithin, GlobalWithin, ElemWithin, SegmentWithin}
+use Rattle.binary_grammar.specs.ModuleGrammar.{SpellsGlobal, SpellsElem, SpellsSegment, id_of, SpellsContents, SpellsSection, FuncTypeWithin, GlobalWithin, ElemWithin, SegmentWithin}
+use Rattle.binary_grammar.proofs.Drafts.{InOrder, Counts}
 use Rattle.binary_grammar.proofs.NumberLaws.{chosen}
 use Rattle.binary_grammar.proofs.Exact.{Limited, Exact, Splits, ok, ok_is, bind_ok, place_after, shorter, exact_then, exact_done, free, exact_number, byte_taken, byte_again, exact_as, exact_entries, exact_vector}
 use Rattle.binary_grammar.proofs.TypeLaws.{exact_name, exact_bytes, exact_limited, exact_func_type, exact_table_type, exact_limits, exact_global_type, exact_import, exact_export, list_free, none_limited, all_free}

@@ -1,20 +1,23 @@
 -- How sections and modules are spelled (Core Specification, 5.5).
-use Rattle.std.specs.Prelude.{◌≡◌, ℕ, ◌+◌, ◌<◌, ◌≤◌, ◌⊎◌, List, [], ◌∷◌, ◌++◌, length}
+use Rattle.std.specs.Prelude.{◌≡◌, ℕ, ◌+◌, ◌<◌, ◌≤◌, ◌⊎◌, ◌==◌, if◌then◌else◌, List, [], ◌∷◌, ◌++◌, length, map, Option, Some, None, unwrap_or}
 use Rattle.std.specs.List.{AllByRecursion}
 use Rattle.wasm_syntax.specs.declared.module.FuncType.{FuncType}
+use Rattle.wasm_syntax.specs.declared.module.Limits.{Limits}
+use Rattle.wasm_syntax.specs.declared.module.Import.{Import}
+use Rattle.wasm_syntax.specs.declared.module.Export.{Export}
 use Rattle.wasm_syntax.specs.declared.module.Global.{Global}
 use Rattle.wasm_syntax.specs.declared.module.Func.{Func}
 use Rattle.wasm_syntax.specs.declared.module.Elem.{Elem}
 use Rattle.wasm_syntax.specs.declared.module.Segment.{Segment}
+use Rattle.wasm_syntax.specs.declared.module.Custom.{Custom}
 use Rattle.wasm_syntax.specs.declared.module.Module.{Module}
 use Rattle.wasm_syntax.specs.declared.module.Marks.{Marks}
+use Rattle.binary_grammar.specs.declared.section.Body.{Body}
 use Rattle.binary_grammar.specs.declared.section.Section.{Section}
 use Rattle.binary_grammar.specs.declared.section.Section.TheVariants as section
-use Rattle.binary_grammar.specs.declared.section.Draft.{Draft}
 use Rattle.binary_grammar.specs.Bounds.{Bounds}
 use Rattle.binary_grammar.specs.Grammar.{Spelling, Then, Done, Tagged, SpellsNumber, SpellsVector, SpellsList, SpellsBytes, SpellsName, SpellsFuncType, SpellsLimits, SpellsTableType, SpellsGlobalType, SpellsImport, SpellsExport}
 use Rattle.binary_grammar.specs.CodeGrammar.{SpellsInstrs, Sized, SpellsBody, NestsAtMost}
-use Rattle.binary_grammar.specs.SectionReading.{with_section, no_sections, whole_module, header}
 
 -- A global (5.5.9).
 unfoldable pub SpellsGlobal : Spelling Global
@@ -71,31 +74,125 @@ abbrev pub InTurn : ℕ → List ℕ → List Section → Type 0
 InTurn at text [] = text ≡ []
 InTurn at text (s ∷ ss) = (first : List ℕ) × (second : List ℕ) × (text ≡ first ++ second) × SpellsSection at first s × InTurn (at + length first) second ss
 
--- A section may stand behind those of a draft: it is custom, or has a greater id than the last that is not, and there are
--- as many bodies as functions are declared.
-abbrev pub InOrder : ℕ → ℕ → Type 0
-InOrder last id = (id ≡ 0) ⊎ (last < id)
+-- Each section is custom, or has a greater id than the last before it that is not (5.5.2, 5.5.15).
+abbrev pub Rising : ℕ → List Section → Type 0
+Rising last [] = Unit {0}
+Rising last (s ∷ ss) = ((id_of s ≡ 0) × Rising last ss) ⊎ ((last < id_of s) × Rising (id_of s) ss)
 
-abbrev pub Counts : ℕ → Section → Type 0
-Counts declared (section.Bodies bs) = length bs ≡ declared
-Counts declared _ = Unit {0}
+-- What the section of a kind gives, where there is one; else this.
+abbrev pub given : {A : Type 0} → (Section → Option A) → A → List Section → A
+given kind none [] = none
+given kind none (s ∷ ss) = unwrap_or (kind s) (given kind none ss)
 
-abbrev pub MayStand : Draft → List Section → Type 0
-MayStand d [] = Unit {0}
-MayStand d (s ∷ ss) = InOrder d.last (id_of s) × Counts (length d.declared) s × MayStand (with_section d s) ss
+-- What sections of each kind give: entries and their places.
+abbrev pub type_section : Section → Option (List FuncType × List ℕ)
+type_section (section.Types es ps) = Some (es, ps)
+type_section _ = None
 
--- A draft with further sections.
-abbrev pub with_sections : Draft → List Section → Draft
-with_sections d [] = d
-with_sections d (s ∷ ss) = with_sections (with_section d s) ss
+abbrev pub import_section : Section → Option (List Import × List ℕ)
+import_section (section.Imports es ps) = Some (es, ps)
+import_section _ = None
 
--- Bytes spell a module with its marks: they are the header and sections in their order, whose contents are those of the
--- module, and each declared function has a body (5.5.15).
+abbrev pub function_section : Section → Option (List ℕ × List ℕ)
+function_section (section.Funcs es ps) = Some (es, ps)
+function_section _ = None
+
+abbrev pub table_section : Section → Option (List Limits × List ℕ)
+table_section (section.Tables es ps) = Some (es, ps)
+table_section _ = None
+
+abbrev pub memory_section : Section → Option (List Limits × List ℕ)
+memory_section (section.Memories es ps) = Some (es, ps)
+memory_section _ = None
+
+abbrev pub global_section : Section → Option (List Global × List ℕ)
+global_section (section.Globals es ps) = Some (es, ps)
+global_section _ = None
+
+abbrev pub export_section : Section → Option (List Export × List ℕ)
+export_section (section.Exports es ps) = Some (es, ps)
+export_section _ = None
+
+abbrev pub start_section : Section → Option (Option ℕ × ℕ)
+start_section (section.Start n p) = Some (Some n, p)
+start_section _ = None
+
+abbrev pub element_section : Section → Option (List Elem × List ℕ)
+element_section (section.Elems es ps) = Some (es, ps)
+element_section _ = None
+
+abbrev pub code_section : Section → Option (List Body)
+code_section (section.Bodies bs) = Some bs
+code_section _ = None
+
+abbrev pub data_section : Section → Option (List Segment × List ℕ)
+data_section (section.Segments es ps) = Some (es, ps)
+data_section _ = None
+
+-- The declared functions and the bodies are as many, and make the functions one by one (5.5.15).
+abbrev pub AreFuncs : List ℕ → List Body → List Func → Type 0
+AreFuncs [] [] [] = Unit {0}
+AreFuncs (t ∷ ts) (b ∷ bs) (f ∷ fs) = (f ≡ record { ty = t; locals = b.locals; body = b.code }) × AreFuncs ts bs fs
+AreFuncs _ _ _ = ⊥
+
+-- How many entries a section has; a custom section has none.
+abbrev pub entry_count : Section → ℕ
+entry_count (section.Custom name bytes) = 0
+entry_count (section.Types es ps) = length es
+entry_count (section.Imports es ps) = length es
+entry_count (section.Funcs es ps) = length es
+entry_count (section.Tables es ps) = length es
+entry_count (section.Memories es ps) = length es
+entry_count (section.Globals es ps) = length es
+entry_count (section.Exports es ps) = length es
+entry_count (section.Start n p) = 1
+entry_count (section.Elems es ps) = length es
+entry_count (section.Bodies bs) = length bs
+entry_count (section.Segments es ps) = length es
+
+-- The id of the last section that has an entry, behind one more section.
+abbrev pub last_filled : ℕ → Section → ℕ
+last_filled last s = if entry_count s == 0 then last else id_of s
+
+-- A section that is custom, with the id of the last section before it that has an entry.
+abbrev pub if_custom : ℕ → Section → List Custom
+if_custom last (section.Custom name bytes) = record { after = last; name = name; bytes = bytes } ∷ []
+if_custom last _ = []
+
+-- The custom sections, in their order.
+abbrev pub customs_of : ℕ → List Section → List Custom
+customs_of last [] = []
+customs_of last (s ∷ ss) = if_custom last s ++ customs_of (last_filled last s) ss
+
+-- What a module and its marks are, by the sections.
+pub record AreParts (sections : List Section) (m : Module) (k : Marks) : Type 0 where
+  pub types : (m.types, k.types) ≡ given type_section ([], []) sections
+  pub imports : (m.imports, k.imports) ≡ given import_section ([], []) sections
+  pub tables : (m.tables, k.tables) ≡ given table_section ([], []) sections
+  pub memories : (m.memories, k.memories) ≡ given memory_section ([], []) sections
+  pub globals : (m.globals, k.globals) ≡ given global_section ([], []) sections
+  pub exports : (m.exports, k.exports) ≡ given export_section ([], []) sections
+  pub start : (m.start, k.start) ≡ given start_section (None, 0) sections
+  pub elems : (m.elems, k.elems) ≡ given element_section ([], []) sections
+  pub segments : (m.segments, k.segments) ≡ given data_section ([], []) sections
+  pub funcs : AreFuncs (given function_section ([], []) sections).0 (given code_section [] sections) m.funcs
+  pub func_places : k.funcs ≡ (given function_section ([], []) sections).1
+  pub code : k.code ≡ map (λ b. b.places) (given code_section [] sections)
+  pub customs : m.customs ≡ customs_of 0 sections
+
+-- A module begins with the magic and the version (5.5.15).
+abbrev pub magic : List ℕ
+magic = 0x00 ∷ 0x61 ∷ 0x73 ∷ 0x6d ∷ []
+
+abbrev pub version : List ℕ
+version = 0x01 ∷ 0x00 ∷ 0x00 ∷ 0x00 ∷ []
+
+-- Bytes spell a module with its marks: they are the magic, the version and sections in their order, whose contents are the
+-- parts of the module (5.5.15).
 unfoldable pub Spells : List ℕ → Module → Marks → Type 0
 Spells bytes m k =
-    (sections : List Section) × (rest : List ℕ) × (bytes ≡ header ++ rest) × InTurn 8 rest sections × MayStand no_sections sections ×
-    (length (with_sections no_sections sections).bodies ≡ length (with_sections no_sections sections).declared) ×
-    (whole_module (length bytes) (with_sections no_sections sections) ≡ record { «module» = m; marks = k })
+    (sections : List Section) × (rest : List ℕ) × (bytes ≡ magic ++ (version ++ rest)) × InTurn 8 rest sections × Rising 0 sections ×
+    AreParts sections m k × (k.len ≡ length bytes)
 
 -- The limits of parts of a module.
 abbrev pub FuncTypeWithin : Bounds → FuncType → Type 0
