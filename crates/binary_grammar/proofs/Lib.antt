@@ -13,3 +13,4 @@ pub mod UniqueLaws
 pub mod ReadingLaws
 pub mod PlanLaws
 pub mod PlanModule
+pub mod FaultLaws

@@ -1,7 +1,8 @@
-ghost use Rattle.std.specs.Prelude.{◌≡◌, ◌↔◌, ◌≤◌, ℕ, List, length, Ok, Err};
+ghost use Rattle.std.specs.Prelude.{◌≡◌, ◌↔◌, ◌≤◌, ◌⊎◌, ℕ, List, length, Ok, Err};
 ghost use Rattle.wasm_syntax.specs.declared.module.Module.{Module};
 ghost use Rattle.wasm_syntax.specs.declared.module.Marks.{Marks};
 ghost use Rattle.binary_grammar.specs.declared.fault.DecodeFault.{DecodeFault};
+ghost use Rattle.binary_grammar.specs.declared.fault.DecodeFault.TheVariants as DecodeFault;
 ghost use Rattle.binary_grammar.specs.declared.section.Decoded.{Decoded};
 ghost use Rattle.binary_grammar.specs.Bounds.{the_bounds};
 ghost use Rattle.binary_grammar.specs.SectionReading.{module_at};
@@ -23,6 +24,14 @@ pub fn complete_readings()
 pub fn readings()
     ensures complete { (bytes : List ℕ) (r : Decoded) → (module_at the_bounds bytes ≡ Ok r) ↔ ReadsModule the_bounds bytes r }
     ensures fault { (bytes : List ℕ) (f : DecodeFault) → (module_at the_bounds bytes ≡ Err f) ↔ Fault the_bounds bytes f }
+{}
+
+/// Bytes that have no complete reading have one fault: a word or a limit, and never want of memory.
+pub fn one_fault()
+    ensures some { (bytes : List ℕ) → ((r : Decoded) × ReadsModule the_bounds bytes r) ⊎ ((f : DecodeFault) × Fault the_bounds bytes f) }
+    ensures not_both { (bytes : List ℕ) (r : Decoded) (f : DecodeFault) → ReadsModule the_bounds bytes r → Fault the_bounds bytes f → ⊥ }
+    ensures one { (bytes : List ℕ) (f g : DecodeFault) → Fault the_bounds bytes f → Fault the_bounds bytes g → f ≡ g }
+    ensures of_bytes { (bytes : List ℕ) → Fault the_bounds bytes DecodeFault.OutOfMemory → ⊥ }
 {}
 
 /// No reading goes past an item that is not accepted.

@@ -6,5 +6,5 @@ mod laws;
 mod section;
 
 pub use fault::{DecodeFault, DecodeWord, LebFault};
-pub use laws::{complete_readings, longest_reading, one_module, readings};
+pub use laws::{complete_readings, longest_reading, one_fault, one_module, readings};
 pub use section::{Body, Decoded, Draft, Section};

@@ -12,7 +12,9 @@ use Rattle.binary_grammar.specs.declared.section.Decoded.{Decoded}
 use Rattle.binary_grammar.specs.Grammar.{Spelling, Then, Done, Tagged, Each, Many, SpellsVector}
 use Rattle.binary_grammar.specs.CodeGrammar.{SpellsItem, SpellsExpression, Sized, OfLength, SpellsBodyContents, SpellsBody}
 use Rattle.binary_grammar.specs.SectionReading.{with_section, no_sections, whole_module, funcs_of, places_of}
-use Rattle.binary_grammar.specs.ModuleGrammar.{SpellsContents, SpellsSection, InTurn, with_sections, Spells}
+use Rattle.binary_grammar.specs.ModuleGrammar.{SpellsContents, SpellsSection, InTurn, Spells}
+use Rattle.binary_grammar.proofs.Drafts.{with_sections}
+use Rattle.binary_grammar.proofs.DraftLaws.{drafted}
 use Rattle.wasm_typing.specs.Faults.{Marked}
 use Rattle.module_listing.specs.Listing.{HasPlaces}
 
@@ -166,10 +168,10 @@ whole_marked len d h e = record {
 }
 
 pub spelled_marked : (bytes : List ℕ) (m : Module) (k : Marks) → Spells bytes m k → Marked m k
-unfolding Spells
-spelled_marked bytes m k h =
-    let d = with_sections no_sections h.0 in
-    subst DecodedMarked h.6 (whole_marked (length bytes) d (turn_marked 8 h.1 h.0 no_sections h.3 none_marked) h.5)
+spelled_marked bytes m k spells =
+    let h = drafted bytes m k spells in
+    let d = with_sections no_sections h.sections in
+    subst DecodedMarked h.is (whole_marked (length bytes) d (turn_marked 8 h.rest h.sections no_sections h.turn none_marked) h.counted)
 
 pub marked_places : (m : Module) (k : Marks) → Marked m k → HasPlaces m k
 marked_places m k marked = record { code = marked.code; items = marked.items }

@@ -9,7 +9,8 @@ use Rattle.binary_grammar.specs.declared.section.Section.TheVariants as section
 use Rattle.binary_grammar.specs.declared.section.Draft.{Draft}
 use Rattle.binary_grammar.specs.Grammar.{Spelling, SpellsVector}
 use Rattle.binary_grammar.specs.SectionReading.{with_section}
-use Rattle.binary_grammar.specs.ModuleGrammar.{id_of, SpellsContents, SpellsSection, InTurn, InOrder, Counts, MayStand, with_sections}
+use Rattle.binary_grammar.specs.ModuleGrammar.{id_of, SpellsContents, SpellsSection, InTurn}
+use Rattle.binary_grammar.proofs.Drafts.{InOrder, Counts, MayStand, with_sections}
 use Rattle.wasm_write.specs.Shortest.{number_text}
 use Rattle.wasm_write.specs.Encoding.{vector_text, sized_text, section_text, entries_text, custom_contents, custom_text, customs_after}
 use Rattle.wasm_write.specs.Writable.{IsCounted, CustomWritable, NeverFalls}

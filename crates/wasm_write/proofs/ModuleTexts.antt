@@ -20,7 +20,9 @@ use Rattle.binary_grammar.specs.Bounds.{the_bounds}
 use Rattle.binary_grammar.specs.Grammar.{Each, Many, SpellsNumber, SpellsVector, SpellsFuncType, SpellsImport, SpellsTableType, SpellsLimits, SpellsExport}
 use Rattle.binary_grammar.specs.CodeGrammar.{SpellsBody}
 use Rattle.binary_grammar.specs.SectionReading.{after_of, no_module, no_sections, funcs_of, whole_module, header, module_at}
-use Rattle.binary_grammar.specs.ModuleGrammar.{SpellsGlobal, SpellsElem, SpellsSegment, SpellsContents, with_sections, FuncWithin, Spells}
+use Rattle.binary_grammar.specs.ModuleGrammar.{SpellsGlobal, SpellsElem, SpellsSegment, SpellsContents, FuncWithin, Spells}
+use Rattle.binary_grammar.proofs.Drafts.{with_sections, Drafted}
+use Rattle.binary_grammar.proofs.DraftLaws.{spelled}
 use Rattle.binary_grammar.specs.Reading.{Gives}
 use Rattle.binary_grammar.proofs.Exact.{ok}
 use Rattle.binary_grammar.proofs.ModuleLaws.{module_again}
@@ -449,7 +451,7 @@ whole m len d w s =
     ap (λ gs. record (with_segments m) { customs = m.customs; funcs = gs }) fs
 
 pub spells_encoded : (m : Module) → Writable m → (k : Marks) × Spells (encoded m) m k
-unfolding encoded Spells
+unfolding encoded
 spells_encoded m w =
     let built : Builds 8 (first_sections m ++ last_sections m) no_sections (State m (with_segments m) (Types m) (Shapes m) 11 12) =
     both 8 (first_sections m) (last_sections m) no_sections _ _ (sections_first m w 8) (λ d s. sections_last m w _ d s) in
@@ -458,7 +460,8 @@ spells_encoded m w =
     let k : Marks = (whole_module len d).marks in
     let count : length d.bodies ≡ length d.declared =
     sym (length-map d.bodies shape) ∙ ap length built.done.shapes ∙ length-map m.funcs func_shape ∙ sym (ap length built.done.types ∙ length-map m.funcs (λ (f : Func). f.ty)) in
-    (k, (built.sections, first_sections m ++ last_sections m, refl, built.turn, built.stand, count, ap (λ (n : Module). decoded n k) (whole m len d w built.done)))
+    let put : Drafted (header ++ (first_sections m ++ last_sections m)) m k = record { sections = built.sections; rest = first_sections m ++ last_sections m; parts = refl; turn = built.turn; stand = built.stand; counted = count; is = ap (λ (n : Module). decoded n k) (whole m len d w built.done) } in
+    (k, spelled (header ++ (first_sections m ++ last_sections m)) m k put)
   where
     decoded : Module → Marks → Decoded
     decoded n k = record { «module» = n; marks = k }
