@@ -330,7 +330,7 @@ parts_of ss len d g e = record {
   elems = g.elems;
   segments = g.segments;
   funcs = subst (λ (bs : List Body). AreFuncs (given function_section ([], []) ss).0 bs (funcs_of d.declared d.bodies)) g.bodies
-  (subst (λ (x : List ℕ × List ℕ). AreFuncs x.0 d.bodies (funcs_of d.declared d.bodies)) g.declared (are_funcs d.declared d.bodies e));
+      (subst (λ (x : List ℕ × List ℕ). AreFuncs x.0 d.bodies (funcs_of d.declared d.bodies)) g.declared (are_funcs d.declared d.bodies e));
   func_places = ap (λ (x : List ℕ × List ℕ). x.1) g.declared;
   code = ap places_of g.bodies;
   customs = g.customs;
@@ -376,7 +376,6 @@ same_marks j k same_len same_types same_imports same_funcs same_tables same_memo
     ap (λ x. record { len = k.len; types = k.types; imports = k.imports; funcs = k.funcs; tables = k.tables; memories = k.memories; globals = k.globals; exports = k.exports; start = k.start; elems = x; segments = j.segments; code = j.code }) same_elems ∙
     ap (λ x. record { len = k.len; types = k.types; imports = k.imports; funcs = k.funcs; tables = k.tables; memories = k.memories; globals = k.globals; exports = k.exports; start = k.start; elems = k.elems; segments = x; code = j.code }) same_segments ∙
     ap (λ x. record { len = k.len; types = k.types; imports = k.imports; funcs = k.funcs; tables = k.tables; memories = k.memories; globals = k.globals; exports = k.exports; start = k.start; elems = k.elems; segments = k.segments; code = x }) same_code
-
 
 firsts : {A B : Type 0} (x y : A × B) → x ≡ y → x.0 ≡ y.0
 firsts {A} {B} x y e = ap (λ (z : A × B). z.0) e

@@ -1,6 +1,6 @@
 // What the definitions of reports rest on.
 
-ghost use Rattle.std.specs.Prelude.{◌≡◌, ℕ, List};
+ghost use Rattle.std.specs.Prelude.{◌≡◌, ℕ, List, [], ◌∷◌, codes};
 ghost use Rattle.wasm_syntax.specs.declared.module.Module.{Module};
 ghost use Rattle.wasm_syntax.specs.declared.module.Marks.{Marks};
 ghost use Rattle.binary_grammar.specs.ModuleGrammar.{Spells};
@@ -11,6 +11,11 @@ ghost use Rattle.verify_command.specs.Reports.{Report, Files, IsReport};
 /// Words have at most one report over the files.
 pub fn one_report()
     ensures { (words : List (List ℕ)) (files : Files) (r s : Report) → IsReport words files r → IsReport words files s → r ≡ s }
+{}
+
+/// `show` has a report over any files.
+pub fn show_has_a_report()
+    ensures { (files : Files) (name : List ℕ) → (r : Report) × IsReport (codes "show" ∷ name ∷ []) files r }
 {}
 
 /// A module with its marks has at most one first fault.

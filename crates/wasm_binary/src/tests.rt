@@ -58,11 +58,15 @@ fn a_module_with_its_marks(rt: HostRuntime) -> Result<(), Fail> {
     Ok(())
 }
 
-// The bytes behind the header and a type section with one empty function type.
-fn with_type(alloc: Global, bytes: &[u8]) -> Result<Vec<u8>, Fail> {
-    let mut all = Vec::from_slice(alloc, &SAMPLE[..14])?;
+// The bytes behind the first eight or fourteen of the sample: its header, and its section with one empty function type.
+fn behind(alloc: Global, front: &[u8], bytes: &[u8]) -> Result<Vec<u8>, Fail> {
+    let mut all = Vec::from_slice(alloc, front)?;
     all.extend_from_slice(bytes)?;
     Ok(all)
+}
+
+fn with_type(alloc: Global, bytes: &[u8]) -> Result<Vec<u8>, Fail> {
+    behind(alloc, &SAMPLE[..14], bytes)
 }
 
 #[test]
@@ -96,6 +100,41 @@ fn numbers_floats_and_limits(rt: HostRuntime) -> Result<(), Fail> {
     for (bytes, wanted) in cases {
         let all = with_type(rt.alloc(), bytes)?;
         assert_eq!(rt; fault(rt.alloc(), &all), wanted);
+    }
+    Ok(())
+}
+
+#[test]
+fn floats_and_false_counts(rt: HostRuntime) -> Result<(), Fail> {
+    let cases: [(&[u8], Option<Fault>); 3] = [
+        (
+            &[1, 5, 1, 0x60, 1, 0x7c, 0],
+            Some((0x0d, Some(DecodeWord::Float))),
+        ),
+        (&[1, 5, 0xff, 0xff, 0xff, 0xff, 0x0f], Some((0x0a, None))),
+        (
+            &[7, 5, 0xff, 0xff, 0xff, 0xff, 0x0f],
+            Some((0x0f, Some(DecodeWord::End))),
+        ),
+    ];
+    for (bytes, wanted) in cases {
+        let all = behind(rt.alloc(), &SAMPLE[..8], bytes)?;
+        assert_eq!(rt; fault(rt.alloc(), &all), wanted);
+    }
+    Ok(())
+}
+
+#[test]
+fn custom_sections(rt: HostRuntime) -> Result<(), Fail> {
+    // Behind the types stand a custom section, no functions, and another custom section.
+    let all = with_type(rt.alloc(), &[0, 3, 1, 0x61, 7, 3, 1, 0, 0, 1, 0])?;
+    let found = decode(rt.alloc(), &all)
+        .ok()
+        .ok_or("the bytes are a module")?;
+    let customs = found.module.customs.as_slice();
+    assert_eq!(rt; customs.len(), 2);
+    for custom in customs {
+        assert_eq!(rt; custom.after, 1);
     }
     Ok(())
 }
