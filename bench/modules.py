@@ -110,10 +110,9 @@ def many_operands(count):
     return of_bodies([b"\x41\x00" * count + b"\x1a" * count])
 
 
-def many_exports(count):
-    """So many exports of one function, all of different names."""
+def exports_named(names):
+    """Exports of one function by these names."""
     body = code(b"")
-    names = [b"%d" % k for k in range(count)]
     return b"".join([
         HEADER,
         section(1, vector([bytes.fromhex("600000")])),
@@ -121,6 +120,37 @@ def many_exports(count):
         section(7, vector([u32(len(name)) + name + b"\x00\x00" for name in names])),
         section(10, vector([body])),
     ])
+
+
+def many_exports(count):
+    """So many exports, all of different names."""
+    return exports_named([b"%d" % k for k in range(count)])
+
+
+# The library's hasher, whose seed is fixed: its first state and its multiplier.
+HASH_STATE = 0x243F6A8885A308D3
+HASH_MULTIPLIER = 0x9E3779B97F4A7C15
+WORD = (1 << 64) - 1
+
+
+def folded(left, right):
+    product = left * right
+    return product & WORD ^ product >> 64
+
+
+def colliding_exports(count):
+    """So many exports whose names of 32 bytes all have one hash under the library's hasher.
+
+    The third word of each name is the state after the first two, so the last product is 0 whatever the fourth word is.
+    """
+    for trial in range(1 << 20):
+        front = b"%016d" % trial
+        left = int.from_bytes(front[:8], "little") ^ (HASH_STATE + 32)
+        right = int.from_bytes(front[8:], "little") ^ HASH_MULTIPLIER
+        third = folded(left, right).to_bytes(8, "little")
+        if third.isascii():
+            return exports_named([front + third + b"%08d" % k for k in range(count)])
+    raise AssertionError("no such name")
 
 
 CHECKED = {
@@ -132,4 +162,6 @@ CHECKED = {
     "200,000 operands": lambda: many_operands(200_000),
     "100,000 exports": lambda: many_exports(100_000),
     "200,000 exports": lambda: many_exports(200_000),
+    "50,000 exports of one hash": lambda: colliding_exports(50_000),
+    "100,000 exports of one hash": lambda: colliding_exports(100_000),
 }

@@ -2,6 +2,8 @@
 //! whether a module is valid, and `show MODULE` lists it.
 #![tactic(auto)]
 
+#[cfg(test)]
+mod cases;
 mod commands;
 mod judge;
 mod laws;

@@ -1,5 +1,6 @@
 ghost use Rattle.std.specs.Prelude.{◌<◌};
 
+use crate::cases::{BODIES, PREFIXES, SECTIONS};
 use crate::run::run;
 use crate::status::Status;
 use rw_edge::{MemShelf, MemSink};
@@ -115,105 +116,6 @@ fn other_commands(rt: HostRuntime) -> Result<(), Fail> {
     Ok(())
 }
 
-/// Bodies around code that can't be reached, branches out of blocks, and their ends: the function's type, 0 for `[] -> []`
-/// and 1 for `[] -> [i32]`, its instructions, of which the first stands at `0x1b`, and what is said of the module.
-const BODIES: &[(u8, &[u8], &[u8])] = &[
-    (1, &[0x0b], b"invalid: stack at 0x0000001b\n"),
-    (0, &[0x41, 0, 0x0b], b"invalid: stack at 0x0000001d\n"),
-    // Code that can't be reached takes and gives any operands.
-    (1, &[0x00, 0x0b], b"valid\n"),
-    (1, &[0x00, 0x6a, 0x0b], b"valid\n"),
-    (1, &[0x00, 0x1b, 0x0b], b"valid\n"),
-    (
-        1,
-        &[0x00, 0x42, 0, 0x6a, 0x0b],
-        b"invalid: stack at 0x0000001e\n",
-    ),
-    (0, &[0x00, 0x41, 0, 0x0b], b"invalid: stack at 0x0000001e\n"),
-    (1, &[0x41, 7, 0x0f, 0x6a, 0x0b], b"valid\n"),
-    (1, &[0x0f, 0x0b], b"invalid: stack at 0x0000001b\n"),
-    // Branches out of blocks and loops, with results and without.
-    (0, &[0x0c, 1, 0x0b], b"invalid: label at 0x0000001b\n"),
-    (1, &[0x02, 0x7f, 0x41, 7, 0x0c, 0, 0x0b, 0x0b], b"valid\n"),
-    (
-        1,
-        &[0x02, 0x7f, 0x0c, 0, 0x0b, 0x0b],
-        b"invalid: stack at 0x0000001d\n",
-    ),
-    (
-        1,
-        &[
-            0x02, 0x40, 0x02, 0x7f, 0x41, 7, 0x0c, 2, 0x0b, 0x1a, 0x0b, 0x00, 0x0b,
-        ],
-        b"valid\n",
-    ),
-    (1, &[0x03, 0x7f, 0x0c, 0, 0x0b, 0x0b], b"valid\n"),
-    (
-        1,
-        &[0x03, 0x7f, 0x0b, 0x0b],
-        b"invalid: stack at 0x0000001d\n",
-    ),
-    // Behind `br_if` stand the label's types, also where it can't be reached.
-    (
-        1,
-        &[0x02, 0x7f, 0x41, 7, 0x41, 0, 0x0d, 0, 0x0b, 0x0b],
-        b"valid\n",
-    ),
-    (
-        1,
-        &[0x02, 0x7f, 0x00, 0x0d, 0, 0xa7, 0x0b, 0x0b],
-        b"invalid: stack at 0x00000020\n",
-    ),
-    // Targets of `br_table` at different depths.
-    (
-        1,
-        &[
-            0x02, 0x7f, 0x02, 0x7f, 0x41, 7, 0x41, 0, 0x0e, 1, 0, 1, 0x0b, 0x0b, 0x0b,
-        ],
-        b"valid\n",
-    ),
-    (
-        1,
-        &[
-            0x02, 0x7f, 0x02, 0x7f, 0x41, 0, 0x0e, 1, 0, 1, 0x0b, 0x0b, 0x0b,
-        ],
-        b"invalid: stack at 0x00000021\n",
-    ),
-    (
-        1,
-        &[
-            0x02, 0x7f, 0x02, 0x40, 0x00, 0x0e, 1, 0, 1, 0x0b, 0x41, 7, 0x0b, 0x0b,
-        ],
-        b"invalid: label at 0x00000020\n",
-    ),
-    // The two sides of an `if`, and operands of the block around.
-    (
-        1,
-        &[0x41, 0, 0x04, 0x7f, 0x41, 7, 0x05, 0x41, 8, 0x0b, 0x0b],
-        b"valid\n",
-    ),
-    (
-        1,
-        &[0x41, 0, 0x04, 0x7f, 0x41, 7, 0x0b, 0x0b],
-        b"invalid: stack at 0x00000021\n",
-    ),
-    (
-        0,
-        &[0x41, 0, 0x04, 0x40, 0x41, 7, 0x05, 0x0b, 0x0b],
-        b"invalid: stack at 0x00000021\n",
-    ),
-    (
-        0,
-        &[0x42, 0, 0x04, 0x40, 0x0b, 0x0b],
-        b"invalid: stack at 0x0000001d\n",
-    ),
-    (
-        1,
-        &[0x41, 7, 0x02, 0x40, 0x6a, 0x0b, 0x0b],
-        b"invalid: stack at 0x0000001f\n",
-    ),
-];
-
 // A module of one function with this type and body.
 fn with_body(alloc: Global, ty: u8, body: &[u8]) -> Result<Vec<u8>, Fail> {
     let size = body.len().min(100) as u8;
@@ -234,6 +136,98 @@ fn bodies(rt: HostRuntime) -> Result<(), Fail> {
     for (ty, body, said) in BODIES {
         let checked = outcome(alloc, &["check", "m"], with_body(alloc, *ty, body)?, 99, 99)?;
         assert_eq!(rt; checked.1.written(), *said);
+    }
+    Ok(())
+}
+
+// The eight bytes that each module begins with, then these, and then so many zeros.
+fn with_header(alloc: Global, sections: &[u8], zeros: usize) -> Result<Vec<u8>, Fail> {
+    let mut module = Vec::from_slice(alloc, &[0, 97, 115, 109, 1, 0, 0, 0])?;
+    module.extend_from_slice(sections)?;
+    for _ in 0..zeros {
+        module.push(0)?;
+    }
+    Ok(module)
+}
+
+#[test]
+fn sections(rt: HostRuntime) -> Result<(), Fail> {
+    let alloc = rt.alloc();
+    for (sections, said) in SECTIONS {
+        let checked = outcome(
+            alloc,
+            &["check", "m"],
+            with_header(alloc, sections, 0)?,
+            99,
+            99,
+        )?;
+        assert_eq!(rt; checked.1.written(), *said);
+    }
+    Ok(())
+}
+
+// A module of one function whose body is so many nested blocks, behind these bytes of its code section.
+fn nested(alloc: Global, front: &[u8], blocks: usize) -> Result<Vec<u8>, Fail> {
+    let mut module = with_header(alloc, &[1, 4, 1, 0x60, 0, 0, 3, 2, 1, 0], 0)?;
+    module.extend_from_slice(front)?;
+    for _ in 0..blocks {
+        module.extend_from_slice(&[0x02, 0x40])?;
+    }
+    for _ in 0..blocks {
+        module.push(0x0b)?;
+    }
+    module.push(0x0b)?;
+    Ok(module)
+}
+
+#[test]
+fn nesting(rt: HostRuntime) -> Result<(), Fail> {
+    let alloc = rt.alloc();
+    let most = nested(alloc, &[10, 0xb1, 2, 1, 0xae, 2, 0], 100)?;
+    let checked = outcome(alloc, &["check", "m"], most, 99, 99)?;
+    assert_eq!(rt; checked.1.written(), b"valid\n".as_slice());
+    let deeper = nested(alloc, &[10, 0xb4, 2, 1, 0xb1, 2, 0], 101)?;
+    let refused = outcome(alloc, &["check", "m"], deeper, 99, 99)?;
+    assert_eq!(rt; refused.0, Status::Limit);
+    assert_eq!(rt;
+        refused.1.written(),
+        b"limit: nesting at 0x000000e1\n".as_slice()
+    );
+    Ok(())
+}
+
+#[test]
+fn length(rt: HostRuntime) -> Result<(), Fail> {
+    let alloc = rt.alloc();
+    // A custom section without a name that fills the longest module.
+    let front = [0, 0xf3, 0xff, 0xff, 1, 0];
+    let most = with_header(alloc, &front, 4_194_290)?;
+    let checked = outcome(alloc, &["check", "m"], most, 99, 99)?;
+    assert_eq!(rt; checked.1.written(), b"valid\n".as_slice());
+    let longer = with_header(alloc, &front, 4_194_291)?;
+    let refused = outcome(alloc, &["check", "m"], longer, 99, 99)?;
+    assert_eq!(rt;
+        refused.1.written(),
+        b"limit: module at 0x00400000\n".as_slice()
+    );
+    Ok(())
+}
+
+// The first bytes of the example.
+fn first(alloc: Global, length: usize) -> Result<Vec<u8>, Fail> {
+    let mut cut = MODULE.to_vec(alloc)?;
+    cut.truncate(length);
+    Ok(cut)
+}
+
+#[test]
+fn prefixes(rt: HostRuntime) -> Result<(), Fail> {
+    let alloc = rt.alloc();
+    for (from, to, said) in PREFIXES {
+        for length in *from..*to {
+            let checked = outcome(alloc, &["check", "m"], first(alloc, length)?, 99, 99)?;
+            assert_eq!(rt; checked.1.written(), *said);
+        }
     }
     Ok(())
 }

@@ -1,3 +1,4 @@
 pub mod ValidLemmas
 pub mod PartsLemmas
 pub mod RangeLemmas
+pub mod NameLemmas

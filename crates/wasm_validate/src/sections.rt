@@ -1,17 +1,18 @@
 // The sections but that of bodies, each entry in the order of the file.
 
-ghost use Rattle.std.specs.Prelude.{◌≡◌, ◌+◌, ◌++◌, [], ◌∷◌, length, IfSome, None, not, true};
+ghost use Rattle.std.specs.Prelude.{◌≡◌, ◌+◌, ◌++◌, [], ◌∷◌, ℕ, List, length, IfSome, None, not};
 ghost use Rattle.std.specs.List.{filter_map, list_any};
 ghost use Rattle.std.specs.Str.{bytes_eq};
 ghost use Rattle.wasm_syntax.specs.declared.module.Import.{Import};
 ghost use Rattle.wasm_typing.specs.Valid.{table_import, memory_import};
 ghost use Rattle.wasm_typing.specs.Faults.{type_fault, func_fault, import_fault, module_table_fault, module_memory_fault, global_fault, start_fault, elem_fault, segment_fault, export_fault, export_row, NoFault, FirstFault, StartFault};
-ghost use Rattle.body_check.specs.Answers.{Answers, IsScopeOf, texts_of};
+ghost use Rattle.body_check.specs.Answers.{Answers, IsScopeOf};
+ghost use Rattle.wasm_validate.specs.Names.{HasTexts};
 
 use crate::rows;
 use body_check::{Scope, memory_count, table_count};
-use indexmap::IndexSet;
 use std::alloc::Global;
+use std::collections::BTreeSet;
 use wasm_syntax::{Export, FuncType, Module};
 use wasm_typing::{ValidFault, ValidWord};
 
@@ -165,10 +166,10 @@ pub(crate) fn check_segments(
 }
 
 /// Adds a name of an export, and tells whether it is a new one.
-fn add_name<'a>(names: &mut IndexSet<&'a str>, name: &'a str) -> Result<bool, ValidFault>
-    ensures added { Answers
-        (λ is_new. (is_new ≡ not (list_any (bytes_eq name.now) (texts_of names.old.keys)))
-        × (is_new ≡ true → texts_of names.new.keys ≡ texts_of names.old.keys ++ name.now ∷ []))
+fn add_name<'a>(names: &mut BTreeSet<&'a str>, name: &'a str) -> Result<bool, ValidFault>
+    ensures { Answers
+        (λ is_new. (seen : List (List ℕ)) → HasTexts names.old seen → (is_new ≡ not (list_any (bytes_eq name.now) seen))
+        × HasTexts names.new (seen ++ name.now ∷ []))
         (λ at w. ⊥)
         result }
 {
@@ -182,13 +183,13 @@ fn add_name<'a>(names: &mut IndexSet<&'a str>, name: &'a str) -> Result<bool, Va
 fn fault_of_export<'a>(
     module: &Module,
     scope: &Scope,
-    names: &mut IndexSet<&'a str>,
+    names: &mut BTreeSet<&'a str>,
     export: &'a Export,
 ) -> Result<Option<ValidWord>, ValidFault>
     requires { IsScopeOf «module».now scope.now }
-    ensures fault { Answers
-        (λ fault. (fault ≡ export_row «module».now (texts_of names.old.keys) export.now)
-        × (fault ≡ None → texts_of names.new.keys ≡ texts_of names.old.keys ++ export.now.name ∷ []))
+    ensures { Answers
+        (λ fault. (seen : List (List ℕ)) → HasTexts names.old seen → (fault ≡ export_row «module».now seen export.now)
+        × (fault ≡ None → HasTexts names.new (seen ++ export.now.name ∷ [])))
         (λ at w. ⊥)
         result }
 {
@@ -212,7 +213,7 @@ pub(crate) fn check_exports(
     requires scope { IsScopeOf «module».now scope.now }
     ensures { Answers (λ done. NoFault (export_fault «module».now) «module».now.exports) (FirstFault (export_fault «module».now) «module».now.exports places.now) result }
 {
-    let mut names = IndexSet::new(alloc);
+    let mut names = BTreeSet::new(alloc);
     for (n, export) in module.exports.as_slice().iter().enumerate() {
         if let Some(word) = fault_of_export(module, scope, &mut names, export)? {
             return Err(ValidFault::Invalid {

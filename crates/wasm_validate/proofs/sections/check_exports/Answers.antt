@@ -1,19 +1,20 @@
-use Rattle.std.proofs.Common.{ap, ◌∙◌}
+use Rattle.std.proofs.Common.{map, take}
 use Rattle.wasm_syntax.specs.declared.module.Export.{Export}
-use Rattle.body_check.specs.Answers.{texts_of}
-use Rattle.wasm_typing.specs.Faults.{export_fault, export_row}
-use Rattle.body_check.proofs.SectionLemmas.{none_more_read, none_at_end, first_fault_read, names_more}
+use Rattle.wasm_typing.specs.Faults.{export_fault}
+use Rattle.body_check.proofs.SectionLemmas.{none_more_read, none_at_end, first_fault_read}
+use Rattle.wasm_validate.proofs.NameLemmas.{none_seen, names_more}
 use Rattle.wasm_validate.proofs.sections.check_exports.Goals as goal
 
 pub loop-n-preserved : goal.loop-n-preserved
 loop-n-preserved c =
     let m = c.args.module.now in
-    let ys = c.as_slice-export-items.result.now in (
+    let ys = c.as_slice-export-items.result.now in
+    let seen = map (λ (e : Export). e.name) (take c.loop-n.n m.exports) in
+    let made = c.in_ok-word.ensures seen c.loop-n.invariant.1 in (
       none_more_read (export_fault m) m.exports ys c.loop-n.n c.export-item.result c.in_ok-word.field-0
-          c.loop-n.invariant.0 c.as_slice-export-items.ensures c.loop-n-test.true c.export-item.is
-          (c.in_ok-word.ensures.fault.0 ∙ ap (λ names. export_row m names c.export-item.result) c.loop-n.invariant.1) c.in_default.is,
-      names_more (λ (e : Export). e.name) m.exports ys c.loop-n.n c.export-item.result (texts_of c.loop-n.names.keys) (texts_of c.fault_of_export.new.names.keys)
-          c.as_slice-export-items.ensures c.loop-n-test.true c.export-item.is c.loop-n.invariant.1 (c.in_ok-word.ensures.fault.1 c.in_default.is),
+          c.loop-n.invariant.0 c.as_slice-export-items.ensures c.loop-n-test.true c.export-item.is made.0 c.in_default.is,
+      names_more (λ (e : Export). e.name) m.exports ys c.loop-n.n c.export-item.result c.fault_of_export.new.names
+          c.as_slice-export-items.ensures c.loop-n-test.true c.export-item.is (made.1 c.in_default.is),
     )
 
 pub returns : goal.returns
@@ -22,6 +23,7 @@ returns c = none_at_end (export_fault c.args.module.now) c.args.module.now.expor
 pub returns-in-Some : goal.returns-in-Some
 returns-in-Some c =
     let m = c.args.module.now in
+    let seen = map (λ (e : Export). e.name) (take c.loop-n.n m.exports) in
     first_fault_read (export_fault m) m.exports c.as_slice-export-items.result.now c.args.places.now c.loop-n.n c.export-item.result c.in_ok-word.field-0 c.in-Some.word
     c.loop-n.invariant.0 c.as_slice-export-items.ensures c.loop-n-test.true c.export-item.is
-    (c.in_ok-word.ensures.fault.0 ∙ ap (λ names. export_row m names c.export-item.result) c.loop-n.invariant.1) c.in-Some.is c.requires.places
+    (c.in_ok-word.ensures seen c.loop-n.invariant.1).0 c.in-Some.is c.requires.places

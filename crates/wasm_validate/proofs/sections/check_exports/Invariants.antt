@@ -1,10 +1,10 @@
-use Rattle.std.proofs.Common.{◌≡◌, map, take}
+use Rattle.std.proofs.Common.{map, take}
 use Rattle.wasm_syntax.specs.declared.module.Export.{Export}
-use Rattle.body_check.specs.Answers.{texts_of}
 use Rattle.wasm_typing.specs.Faults.{export_fault}
 use Rattle.body_check.proofs.SectionLemmas.{NoneBefore}
+use Rattle.wasm_validate.specs.Names.{HasTexts}
 use Rattle.wasm_validate.proofs.sections.check_exports.Given as goal
 
 abbrev pub invariant-loop-n : goal.invariant-loop-n
 invariant-loop-n l = NoneBefore (export_fault l.«module») l.«module».exports l.n
-    × (texts_of l.names.keys ≡ map (λ (e : Export). e.name) (take l.n l.«module».exports))
+    × HasTexts l.names (map (λ (e : Export). e.name) (take l.n l.«module».exports))

@@ -1,0 +1,491 @@
+// Modules and what is said of them, worked out apart from the code.
+
+/// Bodies around code that can't be reached, branches out of blocks, and their ends: the function's type, 0 for `[] -> []`
+/// and 1 for `[] -> [i32]`, its instructions, of which the first stands at `0x1b`, and what is said of the module.
+pub const BODIES: &[(u8, &[u8], &[u8])] = &[
+    // The end of a body, and operands that are missing or left.
+    (1, &[0x0b], b"invalid: stack at 0x0000001b\n"),
+    (0, &[0x41, 0, 0x0b], b"invalid: stack at 0x0000001d\n"),
+    // Code that can't be reached takes and gives any operands, and only within its block.
+    (1, &[0x00, 0x0b], b"valid\n"),
+    (1, &[0x00, 0x6a, 0x0b], b"valid\n"),
+    (1, &[0x00, 0x1b, 0x0b], b"valid\n"),
+    (
+        1,
+        &[0x00, 0x42, 0, 0x6a, 0x0b],
+        b"invalid: stack at 0x0000001e\n",
+    ),
+    (0, &[0x00, 0x41, 0, 0x0b], b"invalid: stack at 0x0000001e\n"),
+    (1, &[0x41, 7, 0x0f, 0x6a, 0x0b], b"valid\n"),
+    (1, &[0x0f, 0x0b], b"invalid: stack at 0x0000001b\n"),
+    (
+        0,
+        &[0x02, 0x40, 0x0c, 0, 0x6a, 0x1a, 0x0b, 0x0b],
+        b"valid\n",
+    ),
+    (
+        0,
+        &[0x02, 0x40, 0x0c, 0, 0x42, 0, 0x6a, 0x1a, 0x0b, 0x0b],
+        b"invalid: stack at 0x00000021\n",
+    ),
+    (
+        0,
+        &[0x02, 0x40, 0x41, 0, 0x0e, 0, 0, 0x6a, 0x1a, 0x0b, 0x0b],
+        b"valid\n",
+    ),
+    (
+        0,
+        &[0x02, 0x40, 0x00, 0x0b, 0x6a, 0x1a, 0x0b],
+        b"invalid: stack at 0x0000001f\n",
+    ),
+    (1, &[0x02, 0x7f, 0x00, 0x0b, 0x0b], b"valid\n"),
+    // What it names must exist all the same.
+    (0, &[0x00, 0x0c, 1, 0x0b], b"invalid: label at 0x0000001c\n"),
+    (0, &[0x00, 0x10, 7, 0x0b], b"invalid: index at 0x0000001c\n"),
+    (
+        0,
+        &[0x00, 0x28, 2, 0, 0x1a, 0x0b],
+        b"invalid: index at 0x0000001c\n",
+    ),
+    // A choice between two operands, both known, one known, and none.
+    (
+        0,
+        &[0x00, 0x42, 0, 0x41, 0, 0x41, 0, 0x1b, 0x1a, 0x0b],
+        b"invalid: stack at 0x00000022\n",
+    ),
+    (
+        1,
+        &[0x00, 0x42, 0, 0x41, 0, 0x1b, 0x0b],
+        b"invalid: stack at 0x00000021\n",
+    ),
+    (1, &[0x41, 1, 0x41, 2, 0x41, 0, 0x1b, 0x0b], b"valid\n"),
+    // Branches out of blocks and loops, with results and without.
+    (0, &[0x0c, 1, 0x0b], b"invalid: label at 0x0000001b\n"),
+    (1, &[0x02, 0x7f, 0x41, 7, 0x0c, 0, 0x0b, 0x0b], b"valid\n"),
+    (
+        1,
+        &[0x02, 0x7f, 0x0c, 0, 0x0b, 0x0b],
+        b"invalid: stack at 0x0000001d\n",
+    ),
+    (
+        1,
+        &[0x02, 0x7f, 0x42, 0, 0x41, 7, 0x0c, 0, 0x0b, 0x0b],
+        b"valid\n",
+    ),
+    (
+        1,
+        &[
+            0x02, 0x40, 0x02, 0x7f, 0x41, 7, 0x0c, 2, 0x0b, 0x1a, 0x0b, 0x00, 0x0b,
+        ],
+        b"valid\n",
+    ),
+    (
+        0,
+        &[
+            0x02, 0x40, 0x02, 0x40, 0x02, 0x40, 0x0c, 2, 0x0b, 0x0b, 0x0b, 0x0b,
+        ],
+        b"valid\n",
+    ),
+    (
+        0,
+        &[0x02, 0x40, 0x02, 0x40, 0x0c, 3, 0x0b, 0x0b, 0x0b],
+        b"invalid: label at 0x0000001f\n",
+    ),
+    (
+        1,
+        &[
+            0x02, 0x7f, 0x02, 0x7e, 0x41, 7, 0x0c, 1, 0x0b, 0x1a, 0x41, 8, 0x0b, 0x0b,
+        ],
+        b"valid\n",
+    ),
+    (
+        1,
+        &[
+            0x02, 0x7f, 0x02, 0x7e, 0x42, 7, 0x0c, 1, 0x0b, 0x1a, 0x41, 8, 0x0b, 0x0b,
+        ],
+        b"invalid: stack at 0x00000021\n",
+    ),
+    (
+        1,
+        &[0x02, 0x7f, 0x41, 7, 0x02, 0x40, 0x0c, 1, 0x0b, 0x0b, 0x0b],
+        b"invalid: stack at 0x00000021\n",
+    ),
+    (
+        1,
+        &[
+            0x02, 0x40, 0x02, 0x40, 0x41, 7, 0x0f, 0x0b, 0x0b, 0x41, 8, 0x0b,
+        ],
+        b"valid\n",
+    ),
+    (1, &[0x03, 0x7f, 0x0c, 0, 0x0b, 0x0b], b"valid\n"),
+    (
+        1,
+        &[0x03, 0x7f, 0x0b, 0x0b],
+        b"invalid: stack at 0x0000001d\n",
+    ),
+    (
+        1,
+        &[0x03, 0x7f, 0x41, 0, 0x0d, 0, 0x41, 7, 0x0b, 0x0b],
+        b"valid\n",
+    ),
+    // Behind `br_if` stand the label's types, also where it can't be reached.
+    (
+        1,
+        &[0x02, 0x7f, 0x41, 7, 0x41, 0, 0x0d, 0, 0x0b, 0x0b],
+        b"valid\n",
+    ),
+    (
+        1,
+        &[0x02, 0x7f, 0x00, 0x0d, 0, 0xa7, 0x0b, 0x0b],
+        b"invalid: stack at 0x00000020\n",
+    ),
+    (
+        0,
+        &[0x02, 0x40, 0x41, 0, 0x0d, 0, 0x41, 0, 0x0b, 0x0b],
+        b"invalid: stack at 0x00000023\n",
+    ),
+    (
+        0,
+        &[0x41, 0, 0x0d, 1, 0x0b],
+        b"invalid: label at 0x0000001d\n",
+    ),
+    // Targets of `br_table` at different depths, the function's own label and those of loops among them.
+    (
+        1,
+        &[
+            0x02, 0x7f, 0x02, 0x7f, 0x41, 7, 0x41, 0, 0x0e, 1, 0, 1, 0x0b, 0x0b, 0x0b,
+        ],
+        b"valid\n",
+    ),
+    (
+        1,
+        &[
+            0x02, 0x7f, 0x02, 0x7f, 0x41, 0, 0x0e, 1, 0, 1, 0x0b, 0x0b, 0x0b,
+        ],
+        b"invalid: stack at 0x00000021\n",
+    ),
+    (
+        1,
+        &[0x02, 0x7f, 0x41, 7, 0x41, 0, 0x0e, 1, 0, 1, 0x0b, 0x0b],
+        b"valid\n",
+    ),
+    (
+        0,
+        &[
+            0x02, 0x40, 0x03, 0x40, 0x41, 0, 0x0e, 1, 0, 1, 0x0b, 0x0b, 0x0b,
+        ],
+        b"valid\n",
+    ),
+    (
+        0,
+        &[
+            0x02, 0x40, 0x03, 0x7f, 0x41, 0, 0x0e, 1, 0, 1, 0x0b, 0x1a, 0x0b, 0x0b,
+        ],
+        b"valid\n",
+    ),
+    (
+        1,
+        &[
+            0x02, 0x7f, 0x03, 0x7f, 0x41, 0, 0x0e, 1, 0, 1, 0x0b, 0x0b, 0x0b,
+        ],
+        b"invalid: label at 0x00000021\n",
+    ),
+    (
+        1,
+        &[
+            0x02, 0x7f, 0x02, 0x7e, 0x41, 7, 0x41, 0, 0x0e, 1, 0, 1, 0x0b, 0x1a, 0x41, 8, 0x0b,
+            0x0b,
+        ],
+        b"invalid: label at 0x00000023\n",
+    ),
+    (
+        1,
+        &[
+            0x02, 0x7f, 0x02, 0x40, 0x00, 0x0e, 1, 0, 1, 0x0b, 0x41, 7, 0x0b, 0x0b,
+        ],
+        b"invalid: label at 0x00000020\n",
+    ),
+    (
+        1,
+        &[
+            0x02, 0x7f, 0x02, 0x7f, 0x00, 0x0e, 1, 0, 1, 0x0b, 0x0b, 0x0b,
+        ],
+        b"valid\n",
+    ),
+    (
+        0,
+        &[0x02, 0x40, 0x41, 0, 0x0e, 1, 2, 0, 0x0b, 0x0b],
+        b"invalid: label at 0x0000001f\n",
+    ),
+    (
+        0,
+        &[0x02, 0x40, 0x41, 0, 0x0e, 1, 0, 2, 0x0b, 0x0b],
+        b"invalid: label at 0x0000001f\n",
+    ),
+    (
+        0,
+        &[0x02, 0x40, 0x0e, 0, 0, 0x0b, 0x0b],
+        b"invalid: stack at 0x0000001d\n",
+    ),
+    (
+        0,
+        &[0x02, 0x40, 0x42, 0, 0x0e, 0, 0, 0x0b, 0x0b],
+        b"invalid: stack at 0x0000001f\n",
+    ),
+    // The two sides of an `if`, and operands of the block around.
+    (
+        1,
+        &[0x41, 0, 0x04, 0x7f, 0x41, 7, 0x05, 0x41, 8, 0x0b, 0x0b],
+        b"valid\n",
+    ),
+    (
+        1,
+        &[0x41, 0, 0x04, 0x7f, 0x41, 7, 0x0b, 0x0b],
+        b"invalid: stack at 0x00000021\n",
+    ),
+    (
+        0,
+        &[0x41, 0, 0x04, 0x40, 0x41, 7, 0x05, 0x0b, 0x0b],
+        b"invalid: stack at 0x00000021\n",
+    ),
+    (
+        0,
+        &[0x42, 0, 0x04, 0x40, 0x0b, 0x0b],
+        b"invalid: stack at 0x0000001d\n",
+    ),
+    (
+        1,
+        &[0x41, 0, 0x04, 0x7f, 0x00, 0x05, 0x41, 7, 0x0b, 0x0b],
+        b"valid\n",
+    ),
+    (
+        1,
+        &[0x41, 0, 0x04, 0x7f, 0x00, 0x05, 0x0b, 0x0b],
+        b"invalid: stack at 0x00000021\n",
+    ),
+    (
+        1,
+        &[0x41, 7, 0x02, 0x40, 0x6a, 0x0b, 0x0b],
+        b"invalid: stack at 0x0000001f\n",
+    ),
+];
+
+/// Modules behind their header, and what is said of each.
+pub const SECTIONS: &[(&[u8], &[u8])] = &[
+    // Long spellings of numbers, and too long ones.
+    (
+        &[
+            1, 4, 1, 0x60, 0, 0, 3, 6, 1, 0x80, 0x80, 0x80, 0x80, 0, 0x0a, 4, 1, 2, 0, 0x0b,
+        ],
+        b"valid\n",
+    ),
+    (
+        &[
+            1, 4, 1, 0x60, 0, 0, 3, 7, 1, 0x80, 0x80, 0x80, 0x80, 0x80, 0, 0x0a, 4, 1, 2, 0, 0x0b,
+        ],
+        b"malformed: number at 0x00000011\n",
+    ),
+    (
+        &[
+            1, 4, 1, 0x60, 0, 0, 3, 2, 1, 0, 0x0a, 0x10, 1, 0x0e, 0, 0x42, 0x80, 0x80, 0x80, 0x80,
+            0x80, 0x80, 0x80, 0x80, 0x80, 1, 0x1a, 0x0b,
+        ],
+        b"malformed: number at 0x00000018\n",
+    ),
+    // Floats.
+    (
+        &[
+            1, 4, 1, 0x60, 0, 0, 3, 2, 1, 0, 0x0a, 5, 1, 3, 0, 0x92, 0x0b,
+        ],
+        b"malformed: float at 0x00000017\n",
+    ),
+    (
+        &[1, 5, 1, 0x60, 1, 0x7c, 0],
+        b"malformed: float at 0x0000000d\n",
+    ),
+    // Counts of more entries than there are bytes, and 1,001 and 1,000 locals.
+    (
+        &[1, 5, 0xff, 0xff, 0xff, 0xff, 0x0f],
+        b"limit: types at 0x0000000a\n",
+    ),
+    (
+        &[7, 5, 0xff, 0xff, 0xff, 0xff, 0x0f],
+        b"malformed: end at 0x0000000f\n",
+    ),
+    (
+        &[
+            1, 4, 1, 0x60, 0, 0, 3, 2, 1, 0, 0x0a, 7, 1, 5, 1, 0xe9, 7, 0x7f, 0x0b,
+        ],
+        b"limit: locals at 0x00000017\n",
+    ),
+    (
+        &[
+            1, 4, 1, 0x60, 0, 0, 3, 2, 1, 0, 0x0a, 7, 1, 5, 1, 0xe8, 7, 0x7f, 0x0b,
+        ],
+        b"valid\n",
+    ),
+    // Types, functions, tables and memories.
+    (
+        &[1, 6, 1, 0x60, 0, 2, 0x7f, 0x7f],
+        b"invalid: type at 0x0000000b\n",
+    ),
+    (
+        &[3, 2, 1, 0, 0x0a, 4, 1, 2, 0, 0x0b],
+        b"invalid: index at 0x0000000b\n",
+    ),
+    (
+        &[4, 5, 1, 0x70, 1, 2, 1],
+        b"invalid: limits at 0x0000000b\n",
+    ),
+    (&[5, 5, 2, 0, 0, 0, 0], b"invalid: count at 0x0000000d\n"),
+    (
+        &[2, 8, 1, 1, 0x65, 1, 0x6d, 2, 0, 0, 5, 3, 1, 0, 0],
+        b"invalid: count at 0x00000015\n",
+    ),
+    (
+        &[5, 5, 1, 0, 0x81, 0x80, 4],
+        b"invalid: limits at 0x0000000b\n",
+    ),
+    (
+        &[5, 6, 1, 1, 1, 0x81, 0x80, 4],
+        b"invalid: limits at 0x0000000b\n",
+    ),
+    // Globals, and what their expressions read.
+    (
+        &[6, 5, 1, 0x7f, 0, 1, 0x0b],
+        b"invalid: const at 0x0000000b\n",
+    ),
+    (
+        &[6, 6, 1, 0x7e, 0, 0x41, 0, 0x0b],
+        b"invalid: type at 0x0000000b\n",
+    ),
+    (
+        &[6, 0x0b, 2, 0x7f, 0, 0x41, 0, 0x0b, 0x7f, 0, 0x23, 0, 0x0b],
+        b"invalid: const at 0x00000010\n",
+    ),
+    (
+        &[
+            2, 8, 1, 1, 0x65, 1, 0x67, 3, 0x7f, 0, 6, 6, 1, 0x7f, 0, 0x23, 0, 0x0b,
+        ],
+        b"valid\n",
+    ),
+    (
+        &[
+            2, 8, 1, 1, 0x65, 1, 0x67, 3, 0x7f, 1, 6, 6, 1, 0x7f, 0, 0x23, 0, 0x0b,
+        ],
+        b"invalid: const at 0x00000015\n",
+    ),
+    // Exports and the start function.
+    (&[7, 5, 1, 1, 0x61, 0, 0], b"invalid: index at 0x0000000b\n"),
+    (
+        &[5, 3, 1, 0, 0, 7, 9, 2, 1, 0x61, 2, 0, 1, 0x61, 2, 0],
+        b"invalid: export at 0x00000014\n",
+    ),
+    (&[8, 1, 0], b"invalid: index at 0x0000000a\n"),
+    (
+        &[
+            1, 5, 1, 0x60, 0, 1, 0x7f, 3, 2, 1, 0, 8, 1, 0, 0x0a, 6, 1, 4, 0, 0x41, 0, 0x0b,
+        ],
+        b"invalid: start at 0x00000015\n",
+    ),
+    // Segments: an offset may read a defined immutable global.
+    (
+        &[9, 6, 1, 0, 0x41, 0, 0x0b, 0],
+        b"invalid: index at 0x0000000b\n",
+    ),
+    (
+        &[4, 4, 1, 0x70, 0, 0, 9, 4, 1, 0, 0x0b, 0],
+        b"invalid: const at 0x00000011\n",
+    ),
+    (
+        &[4, 4, 1, 0x70, 0, 0, 9, 6, 1, 0, 0x42, 0, 0x0b, 0],
+        b"invalid: type at 0x00000011\n",
+    ),
+    (
+        &[4, 4, 1, 0x70, 0, 0, 9, 7, 1, 0, 0x41, 0, 0x0b, 1, 0],
+        b"invalid: index at 0x00000011\n",
+    ),
+    (
+        &[
+            5, 3, 1, 0, 0, 6, 6, 1, 0x7f, 0, 0x41, 0, 0x0b, 0x0b, 6, 1, 0, 0x23, 0, 0x0b, 0,
+        ],
+        b"valid\n",
+    ),
+    (
+        &[
+            5, 3, 1, 0, 0, 6, 6, 1, 0x7f, 1, 0x41, 0, 0x0b, 0x0b, 6, 1, 0, 0x23, 0, 0x0b, 0,
+        ],
+        b"invalid: const at 0x00000018\n",
+    ),
+    // Alignment, and a set of an immutable global.
+    (
+        &[
+            1, 4, 1, 0x60, 0, 0, 3, 2, 1, 0, 5, 3, 1, 0, 0, 0x0a, 0x0a, 1, 8, 0, 0x41, 0, 0x28, 2,
+            0, 0x1a, 0x0b,
+        ],
+        b"valid\n",
+    ),
+    (
+        &[
+            1, 4, 1, 0x60, 0, 0, 3, 2, 1, 0, 5, 3, 1, 0, 0, 0x0a, 0x0a, 1, 8, 0, 0x41, 0, 0x28, 3,
+            0, 0x1a, 0x0b,
+        ],
+        b"invalid: align at 0x0000001e\n",
+    ),
+    (
+        &[
+            1, 4, 1, 0x60, 0, 0, 3, 2, 1, 0, 6, 6, 1, 0x7f, 0, 0x41, 0, 0x0b, 0x0a, 8, 1, 6, 0,
+            0x41, 0, 0x24, 0, 0x0b,
+        ],
+        b"invalid: type at 0x00000021\n",
+    ),
+    // Of an element segment, a body and a data segment at fault the first, and of two bodies the first.
+    (
+        &[
+            1, 4, 1, 0x60, 0, 0, 3, 2, 1, 0, 9, 6, 1, 0, 0x41, 0, 0x0b, 0, 0x0a, 5, 1, 3, 0, 0x1a,
+            0x0b, 0x0b, 6, 1, 0, 0x41, 0, 0x0b, 0,
+        ],
+        b"invalid: index at 0x00000015\n",
+    ),
+    (
+        &[
+            1, 4, 1, 0x60, 0, 0, 3, 2, 1, 0, 0x0a, 5, 1, 3, 0, 0x1a, 0x0b, 0x0b, 6, 1, 0, 0x41, 0,
+            0x0b, 0,
+        ],
+        b"invalid: stack at 0x00000017\n",
+    ),
+    (
+        &[
+            1, 4, 1, 0x60, 0, 0, 3, 3, 2, 0, 0, 0x0a, 9, 2, 3, 0, 0x1a, 0x0b, 3, 0, 0x6a, 0x0b,
+        ],
+        b"invalid: stack at 0x00000018\n",
+    ),
+];
+
+/// From how many bytes of the example on, up to how many, the same is said.
+pub const PREFIXES: &[(usize, usize, &[u8])] = &[
+    (0, 1, b"malformed: end at 0x00000000\n"),
+    (1, 2, b"malformed: end at 0x00000001\n"),
+    (2, 3, b"malformed: end at 0x00000002\n"),
+    (3, 4, b"malformed: end at 0x00000003\n"),
+    (4, 5, b"malformed: end at 0x00000004\n"),
+    (5, 6, b"malformed: end at 0x00000005\n"),
+    (6, 7, b"malformed: end at 0x00000006\n"),
+    (7, 8, b"malformed: end at 0x00000007\n"),
+    (8, 9, b"valid\n"),
+    (9, 10, b"malformed: end at 0x00000009\n"),
+    (10, 14, b"malformed: size at 0x00000009\n"),
+    (14, 15, b"valid\n"),
+    (15, 16, b"malformed: end at 0x0000000f\n"),
+    (16, 18, b"malformed: size at 0x0000000f\n"),
+    (18, 19, b"malformed: count at 0x00000012\n"),
+    (19, 20, b"malformed: end at 0x00000013\n"),
+    (20, 26, b"malformed: size at 0x00000013\n"),
+    (26, 27, b"malformed: count at 0x0000001a\n"),
+    (27, 28, b"malformed: end at 0x0000001b\n"),
+    (28, 33, b"malformed: size at 0x0000001b\n"),
+    (33, 34, b"malformed: count at 0x00000021\n"),
+    (34, 35, b"malformed: end at 0x00000022\n"),
+    (35, 43, b"malformed: size at 0x00000022\n"),
+    (43, 44, b"valid\n"),
+];
