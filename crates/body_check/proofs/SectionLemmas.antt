@@ -1,16 +1,13 @@
 -- Walks over the entries of a section.
-use Rattle.std.proofs.Common.{◌≡◌, ℕ, zero, suc, ◌+◌, ◌<◌, ◌≤◌, List, [], ◌∷◌, ◌++◌, length, map, take, not, true, false, Bool, ◌||◌, if◌then◌else◌, slice_get, get_or, Option, Some, None, refl, sym, ap, ◌∙◌, subst, ◌⊎◌, inl, inr, arith}
-use denote.Ref.{Bor}
-use Rattle.std.specs.List.{filter_map, cons_option, list_any, All}
+use Rattle.std.proofs.Common.{◌≡◌, ℕ, zero, suc, ◌+◌, ◌<◌, ◌≤◌, List, [], ◌∷◌, ◌++◌, length, take, if◌then◌else◌, slice_get, get_or, Option, Some, None, refl, sym, ap, ◌∙◌, subst, ◌⊎◌, inl, inr, arith}
+use Rattle.std.specs.List.{filter_map, cons_option, All}
 use Rattle.std.proofs.lemmas.List.Elements.{All-append}
 use Rattle.std.proofs.lemmas.List.{take_all}
-use Rattle.std.specs.Str.{bytes_eq}
 use Rattle.std.specs.Option.{is_some}
-use Rattle.std.proofs.lemmas.List.{take_more, length-append, map_push}
+use Rattle.std.proofs.lemmas.List.{take_more, length-append}
 use Rattle.std.proofs.lemmas.List.Elements.{filter_map-append}
 use Rattle.std.proofs.lemmas.Option.{slice_get_within, slice_get-get_or}
 use Rattle.wasm_typing.specs.declared.fault.ValidWord.{ValidWord}
-use Rattle.body_check.specs.Answers.{texts_of}
 use Rattle.wasm_typing.specs.Faults.{NoFault, FirstFault}
 
 -- no entry before the n-th has a fault
@@ -109,33 +106,6 @@ gathered_read {X} {Y} f xs ys n y gathered more e within read was is =
     let inside : n < length xs = subst P e within in
     is ∙ ap (λ zs. zs ++ cons_option (f y) []) was ∙ ap (λ (z : X). filter_map f (take n xs) ++ cons_option (f z) []) (read ∙ ap (λ (zs : List X). get_or zs n y) e) ∙
     sym (ap (filter_map f) (take_more xs n y inside) ∙ filter_map-append f (take n xs) (get_or xs n y ∷ []))
-
--- a name among names that are lent
-any_text : (q : List ℕ) (keys : List (Bor (List ℕ))) → list_any (λ (k : Bor (List ℕ)). bytes_eq q k.now) keys ≡ list_any (bytes_eq q) (texts_of keys)
-any_text q [] = refl
-any_text q (k ∷ keys) = ap (λ b. bytes_eq q k.now || b) (any_text q keys)
-
-added_key : (b : Bool) (keys new : List (Bor (List ℕ))) (name : Bor (List ℕ)) → not b ≡ true → new ≡ (if b then keys else keys ++ name ∷ []) → texts_of new ≡ texts_of keys ++ name.now ∷ []
-added_key true keys new name h e = cc
-added_key false keys new name h e = ap texts_of e ∙ map_push (λ (k : Bor (List ℕ)). k.now) keys name
-
-pub name_added : (keys new : List (Bor (List ℕ))) (name : Bor (List ℕ)) (r : Bool) →
-    r ≡ not (list_any (λ (k : Bor (List ℕ)). bytes_eq name.now k.now) keys) →
-    new ≡ (if list_any (λ (k : Bor (List ℕ)). bytes_eq name.now k.now) keys then keys else keys ++ name ∷ []) →
-    (r ≡ not (list_any (bytes_eq name.now) (texts_of keys))) × (r ≡ true → texts_of new ≡ texts_of keys ++ name.now ∷ [])
-name_added keys new name r was made = (
-  was ∙ ap not (any_text name.now keys),
-  λ h. added_key (list_any (λ (k : Bor (List ℕ)). bytes_eq name.now k.now) keys) keys new name (sym was ∙ h) made,
-)
-
--- the names up to one more
-pub names_more : {X : Type 0} (f : X → List ℕ) (xs ys : List X) (n : ℕ) (y : X) (names more : List (List ℕ)) → ys ≡ xs → n < length ys → y ≡ get_or ys n y →
-    names ≡ map f (take n xs) → more ≡ names ++ f y ∷ [] → more ≡ map f (take (n + 1) xs)
-names_more {X} f xs ys n y names more e within read was is =
-    let P : List X → Type 0 = λ zs. n < length zs in
-    let inside : n < length xs = subst P e within in
-    is ∙ ap (λ zs. zs ++ f y ∷ []) was ∙ ap (λ (z : X). map f (take n xs) ++ f z ∷ []) (read ∙ ap (λ (zs : List X). get_or zs n y) e) ∙
-    sym (ap (map f) (take_more xs n y inside) ∙ map_push f (take n xs) (get_or xs n y))
 
 -- what holds of each item that a walk has read
 pub each_more : {X : Type 0} (P : X → Type 0) (xs ys : List X) (n : ℕ) (y : X) → All P (take n xs) → ys ≡ xs → n < length ys → y ≡ get_or ys n y → P y → All P (take (n + 1) xs)

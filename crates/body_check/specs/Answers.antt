@@ -1,6 +1,5 @@
 -- Words for what the parts of the validator answer.
-use denote.Ref.{Bor}
-use Rattle.std.specs.Prelude.{◌≡◌, ℕ, length, ◌<◌, map, All, List, Result, Ok, Err}
+use Rattle.std.specs.Prelude.{◌≡◌, ℕ, length, ◌<◌, All, Result, Ok, Err}
 use Rattle.wasm_syntax.specs.declared.module.Module.{Module}
 use Rattle.wasm_syntax.specs.declared.module.Func.{Func}
 use Rattle.wasm_typing.specs.declared.fault.ValidWord.{ValidWord}
@@ -22,10 +21,6 @@ pub record IsScopeOf (m : Module) (s : Scope) : Type 0 where
   pub memories : s.memories ≡ length (memories_of m)
   pub imported : s.imported.items ≡ imported_globals_of m
   pub globals : s.globals.items ≡ globals_of m
-
--- The texts that are lent.
-abbrev pub texts_of : List (Bor (List ℕ)) → List (List ℕ)
-texts_of = map (λ (text : Bor (List ℕ)). text.now)
 
 -- What bodies rest on: types have at most one result each, and functions have types that exist.
 pub record HasTypes (m : Module) : Type 0 where

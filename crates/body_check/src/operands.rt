@@ -181,7 +181,7 @@ impl Operands {
         self.items.is_empty()
     }
 
-    /// Whether the operands are exactly these results. They are taken.
+    /// Whether the operands are exactly these results. What is left of them means nothing.
     pub fn finish(&mut self, results: Option<ValType>) -> bool
         ensures yes { result ≡ true → Are self.old (types_of results) }
         ensures no { result ≡ false → Are self.old (types_of results) → ⊥ }

@@ -1,6 +1,6 @@
 -- A set of names.
 use denote.Ref.{Bor}
-use Rattle.std.proofs.Common.{◌≡◌, ℕ, ◌+◌, ◌<◌, Bool, true, false, cond, not, ◌||◌, if◌then◌else◌, Option, Some, None, List, [], ◌∷◌, ◌++◌, length, map, take, get_or, refl, sym, ap, subst, ◌∙◌}
+use Rattle.std.proofs.Common.{◌≡◌, ℕ, ◌+◌, ◌<◌, Bool, true, false, cond, not, ◌||◌, if◌then◌else◌, Some, None, List, [], ◌∷◌, ◌++◌, length, map, take, get_or, refl, sym, ap, subst, ◌∙◌}
 use Rattle.std.specs.Ordering.{nat_cmp, is_eq}
 use Rattle.std.specs.Cmp.Lexicographic.{slice_cmp, on_texts_equal}
 use Rattle.std.specs.List.{list_any}
@@ -30,11 +30,11 @@ either false true d e = absurd cc
 
 pub one_more : (set new : BTreeSet (Bor (List ℕ))) (name : Bor (List ℕ)) (texts : List (List ℕ)) → HasTexts set texts →
     ((q : Bor (List ℕ)) → contains_by (λ (k : Bor (List ℕ)). slice_cmp nat_cmp q.now k.now) new
-        ≡ cond (is_eq (slice_cmp nat_cmp name.now q.now)) true (contains_by (λ (k : Bor (List ℕ)). slice_cmp nat_cmp q.now k.now) set)) →
+    ≡ cond (is_eq (slice_cmp nat_cmp name.now q.now)) true (contains_by (λ (k : Bor (List ℕ)). slice_cmp nat_cmp q.now k.now) set)) →
     HasTexts new (texts ++ name.now ∷ [])
 one_more set new name texts has updates q =
     let same : is_eq (slice_cmp nat_cmp name.now q.now) ≡ bytes_eq q.now name.now =
-          is_eq-slice_cmp name.now q.now ∙ (on_texts_equal (λ (t : List ℕ). t)).symm name.now q.now in
+    is_eq-slice_cmp name.now q.now ∙ (on_texts_equal (λ (t : List ℕ). t)).symm name.now q.now in
     let old = contains_by (λ (k : Bor (List ℕ)). slice_cmp nat_cmp q.now k.now) set in
     updates q ∙ (either (is_eq (slice_cmp nat_cmp name.now q.now)) (bytes_eq q.now name.now) old same
     ∙ (ap (λ b. b || (bytes_eq q.now name.now || false)) (has q) ∙ sym (list_any-append (bytes_eq q.now) texts (name.now ∷ []))))

@@ -1,14 +1,13 @@
 -- Ranges of the numbers of bodies.
-use Rattle.std.proofs.Common.{◌≡◌, ℕ, ◌+◌, ◌<◌, true, List, [], ◌∷◌, ◌++◌, length, slice_get, Option, Some, None, refl, sym, ap, ◌∙◌, subst, arith}
-use Rattle.wasm_values.specs.declared.number.ValType.{ValType}
+use Rattle.std.proofs.Common.{◌≡◌, ℕ, ◌+◌, List, [], ◌∷◌, ◌++◌, length, slice_get, Option, Some, None, sym, subst}
 use Rattle.wasm_syntax.specs.declared.instr.Instr.{Instr}
 use Rattle.wasm_syntax.specs.declared.flat.Flat.{Flat}
 use Rattle.wasm_syntax.specs.declared.flat.Flat.TheVariants as flat
 use Rattle.wasm_syntax.specs.declared.flat.Head.{Head}
 use Rattle.wasm_syntax.specs.declared.flat.Head.TheVariants as head
 use Rattle.wasm_syntax.specs.FlatForm.{flat_body}
-use Rattle.wasm_syntax.specs.Trees.{Instruction, instruction_of, sequence_of}
-use Rattle.wasm_syntax.specs.Parts.{Part, own, begun, with_instr, turned, closed_part, instr_of}
+use Rattle.wasm_syntax.specs.Trees.{instruction_of, sequence_of}
+use Rattle.wasm_syntax.specs.Parts.{Part, closed_part, instr_of}
 use Rattle.wasm_syntax.proofs.TreeLaws.{instruction_of-Block, instruction_of-Loop, instruction_of-If, instruction_of-IfElse}
 use Rattle.wasm_typing.specs.Valid.{InstructionInRange, SequenceInRange}
 use Rattle.wasm_typing.specs.Open.{parts_before}

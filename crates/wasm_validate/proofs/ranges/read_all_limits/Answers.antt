@@ -1,4 +1,4 @@
-use Rattle.std.proofs.Common.{get_or, None, refl, sym}
+use Rattle.std.proofs.Common.{None, refl}
 use Rattle.wasm_syntax.specs.declared.module.Limits.{Limits}
 use Rattle.wasm_typing.specs.Valid.{LimitsInRange}
 use Rattle.body_check.proofs.SectionLemmas.{each_more_at, each_all}

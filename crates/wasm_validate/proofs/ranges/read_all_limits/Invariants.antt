@@ -1,7 +1,6 @@
-use Rattle.std.proofs.Common.{◌<◌, take}
+use Rattle.std.proofs.Common.{take}
 use Rattle.std.specs.List.{All}
-use Rattle.wasm_syntax.specs.Trees.{sequence_of}
-use Rattle.wasm_typing.specs.Valid.{IsWord, SequenceInRange, LimitsInRange, BytesInRange, ImportInRange, ExportInRange}
+use Rattle.wasm_typing.specs.Valid.{LimitsInRange}
 use Rattle.wasm_validate.proofs.ranges.read_all_limits.Given as goal
 
 abbrev pub invariant-loop-one : goal.invariant-loop-one

@@ -1,4 +1,4 @@
-use Rattle.std.proofs.Common.{◌+◌, arith}
+use Rattle.std.proofs.Common.{arith}
 use Rattle.body_check.proofs.BodyLemmas.{simple_at, some_items}
 use Rattle.wasm_validate.proofs.RangeLemmas.{in_range_first, in_range_next, in_range_whole}
 use Rattle.wasm_validate.proofs.ranges.read_body.Goals as goal

@@ -1,13 +1,7 @@
-use Rattle.std.proofs.Common.{◌<◌, refl}
-use Rattle.std.specs.List.{All}
-use Rattle.wasm_syntax.specs.Trees.{sequence_of}
-use Rattle.wasm_typing.specs.Valid.{IsWord, SequenceInRange, LimitsInRange, BytesInRange, ImportInRange, ExportInRange, imported_globals_of, globals_of, GlobalValid, ElemValid, SegmentValid}
-use Rattle.std.proofs.Common.{List, ap, ◌∙◌, subst}
-use Rattle.wasm_values.specs.declared.number.ValType.TheVariants.{I32}
-use Rattle.wasm_syntax.specs.declared.instr.Instr.{Instr}
+use Rattle.std.proofs.Common.{◌<◌}
+use Rattle.wasm_typing.specs.Valid.{BytesInRange}
 use Rattle.wasm_syntax.specs.declared.module.Custom.{Custom}
-use Rattle.wasm_typing.specs.Valid.{const_type}
-use Rattle.body_check.proofs.SectionLemmas.{each_more, each_all, of_item}
+use Rattle.body_check.proofs.SectionLemmas.{each_more, each_all}
 use Rattle.wasm_validate.proofs.ranges.read_customs.Goals as goal
 
 pub loop-custom-preserved : goal.loop-custom-preserved

@@ -1,7 +1,6 @@
 use Rattle.std.proofs.Common.{◌<◌, take}
 use Rattle.std.specs.List.{All}
-use Rattle.wasm_syntax.specs.Trees.{sequence_of}
-use Rattle.wasm_typing.specs.Valid.{IsWord, SequenceInRange, LimitsInRange, BytesInRange, ImportInRange, ExportInRange}
+use Rattle.wasm_typing.specs.Valid.{BytesInRange}
 use Rattle.wasm_syntax.specs.declared.module.Custom.{Custom}
 use Rattle.wasm_validate.proofs.ranges.read_customs.Given as goal
 

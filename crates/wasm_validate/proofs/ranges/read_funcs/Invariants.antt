@@ -1,7 +1,7 @@
-use Rattle.std.proofs.Common.{◌<◌, take}
+use Rattle.std.proofs.Common.{take}
 use Rattle.std.specs.List.{All}
 use Rattle.wasm_syntax.specs.Trees.{sequence_of}
-use Rattle.wasm_typing.specs.Valid.{IsWord, SequenceInRange, LimitsInRange, BytesInRange, ImportInRange, ExportInRange}
+use Rattle.wasm_typing.specs.Valid.{IsWord, SequenceInRange}
 use Rattle.wasm_syntax.specs.declared.module.Func.{Func}
 use Rattle.wasm_validate.proofs.ranges.read_funcs.Given as goal
 

@@ -1,9 +1,6 @@
-use Rattle.std.proofs.Common.{◌<◌, refl}
-use Rattle.std.specs.List.{All}
 use Rattle.wasm_syntax.specs.Trees.{sequence_of}
-use Rattle.wasm_typing.specs.Valid.{IsWord, SequenceInRange, LimitsInRange, BytesInRange, ImportInRange, ExportInRange, imported_globals_of, globals_of, GlobalValid, ElemValid, SegmentValid}
+use Rattle.wasm_typing.specs.Valid.{SequenceInRange, imported_globals_of, GlobalValid}
 use Rattle.std.proofs.Common.{List, ap, ◌∙◌, subst}
-use Rattle.wasm_values.specs.declared.number.ValType.TheVariants.{I32}
 use Rattle.wasm_syntax.specs.declared.instr.Instr.{Instr}
 use Rattle.wasm_syntax.specs.declared.module.Global.{Global}
 use Rattle.wasm_typing.specs.Valid.{const_type}

@@ -1,7 +1,6 @@
-use Rattle.std.proofs.Common.{◌<◌, take}
+use Rattle.std.proofs.Common.{take}
 use Rattle.std.specs.List.{All}
-use Rattle.wasm_syntax.specs.Trees.{sequence_of}
-use Rattle.wasm_typing.specs.Valid.{IsWord, SequenceInRange, LimitsInRange, BytesInRange, ImportInRange, ExportInRange}
+use Rattle.wasm_typing.specs.Valid.{BytesInRange, ImportInRange}
 use Rattle.wasm_syntax.specs.declared.module.Import.{Import}
 use Rattle.wasm_validate.proofs.ranges.read_imports.Given as goal
 
