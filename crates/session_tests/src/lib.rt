@@ -4,6 +4,8 @@
 #[cfg(test)]
 mod marking;
 #[cfg(test)]
+mod rows;
+#[cfg(test)]
 mod sample;
 #[cfg(test)]
 mod steps;
