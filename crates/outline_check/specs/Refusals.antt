@@ -4,7 +4,7 @@ use Rattle.outline_check.specs.declared.answer.Answer.{Answer}
 use Rattle.outline_check.specs.declared.answer.Answer.TheVariants as answer
 use Rattle.outline_check.specs.declared.answer.CheckFault.{CheckFault}
 use Rattle.outline_check.specs.declared.answer.CheckFault.TheVariants as fault
-use Rattle.outline_check.specs.declared.answer.LimitWord.{LimitWord}
+use Rattle.wasm_values.specs.declared.limit.LimitWord.{LimitWord}
 use Rattle.outline_check.specs.declared.answer.Reason.{Reason}
 use Rattle.outline_check.specs.declared.stop.Why.{Why}
 use Rattle.outline_check.specs.declared.stop.Why.TheVariants as why

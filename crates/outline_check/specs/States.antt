@@ -4,7 +4,7 @@ use Rattle.wasm_values.specs.declared.number.Val.TheVariants as value
 use Rattle.wasm_syntax.specs.declared.instr.Instr.{Instr, Plain, Const, GlobalGet, GlobalSet}
 use Rattle.wasm_syntax.specs.declared.instr.Plain.TheVariants.{Drop}
 use Rattle.wasm_syntax.specs.declared.module.Global.{Global}
-use Rattle.outline_check.specs.declared.answer.LimitWord.TheVariants as word
+use Rattle.wasm_values.specs.declared.limit.LimitWord.TheVariants as word
 use Rattle.outline_check.specs.declared.notes.Formula.{Formula}
 use Rattle.outline_check.specs.declared.state.Term.{Term}
 use Rattle.outline_check.specs.declared.state.Term.TheVariants.{Number, Variable}
