@@ -16,4 +16,5 @@ pub mod NormalForms
 pub mod Rings
 pub mod Replacing
 pub mod NormalValue
+pub mod NormalSound
 pub mod GroundLaws

@@ -5,6 +5,7 @@ use Rattle.std.specs.Ordering.{int_eq}
 use Rattle.term_logic.specs.declared.term.Term.{Term, fold-Term, roll-Term, map-Term}
 use Rattle.term_logic.specs.declared.term.Term.TheOpen.{Term-F, Num, Add, Sub, Mul}
 use Rattle.term_logic.specs.declared.forms.Normal.{Normal}
+use Rattle.term_logic.specs.Terms.{well_formed}
 use Rattle.term_logic.specs.Same.{same}
 use Rattle.term_logic.specs.Meaning.{Numbers, value}
 
@@ -103,6 +104,10 @@ normal_form t =
     if list_all (λ u. fits (form u)) (on_the_way t)
     then Some (record { constant = (form t).constant; parts = nonzero (parts_of (form t)) })
     else None
+
+-- Whether a normal form is well formed: its atoms are.
+abbrev pub well_formed_normal : Normal → Bool
+well_formed_normal f = list_all (λ p. well_formed p.0) f.parts
 
 -- The value of some parts: the sum of the products.
 abbrev pub parts_value : Numbers → List (Term × ℤ) → ℤ

@@ -1,6 +1,6 @@
-ghost use Rattle.std.specs.Prelude.{◌≡◌, IfOk, IsTrue};
+ghost use Rattle.std.specs.Prelude.{◌≡◌, IfOk, IfSome, IsTrue};
 ghost use Rattle.term_logic.specs.Terms.{well_formed};
-ghost use Rattle.term_logic.specs.Normal.{nonzero, normal_form};
+ghost use Rattle.term_logic.specs.Normal.{nonzero, normal_form, well_formed_normal};
 ghost use Rattle.term_logic.specs.Linear.{shown};
 
 use crate::forms::Normal;
@@ -25,7 +25,8 @@ fn nonzero(alloc: Global, parts: &[(&Term, i128)]) -> Result<List<(Term, i128)>,
 /// The linear normal form of a term. `None` comes exactly where a number on the way is too great.
 pub fn normal(alloc: Global, t: &Term) -> Result<Option<Normal>, OutOfMemory>
     requires { IsTrue (well_formed t.now) }
-    ensures { IfOk result (λ o. o ≡ normal_form t.now) }
+    ensures form { IfOk result (λ o. o ≡ normal_form t.now) }
+    ensures well_formed { IfOk result (λ o. IfSome o (λ f. IsTrue (well_formed_normal f))) }
 {
     let Some(form) = form_of(alloc, t)? else {
         return Ok(None);

@@ -95,10 +95,11 @@ impl TermTable {
         &self.cells.keys().as_slice()[id.at]
     }
 
-    /// Whether two positions stand for one tree.
+    /// Whether two positions stand for one tree, which is exactly where they are equal.
     pub fn same_tree(&self, a: TermId, b: TermId) -> bool
         requires first { a < length self.now }
         requires second { b < length self.now }
+        ensures ids { IsTrue result ↔ (a ≡ b) }
         ensures same { IsTrue result ↔ (tree_at self.now a ≡ tree_at self.now b) }
         ensures value { result ≡ same (tree_at self.now a) (tree_at self.now b) }
     {
