@@ -1,5 +1,5 @@
 -- The normal form of a well-formed term is well formed.
-use Rattle.std.proofs.Common.{◌≡◌, ℤ, ◌*ℤ◌, Bool, true, false, ◌&&◌, List, [], ◌∷◌, map, Some, None, refl, sym, ap, subst, ◌∙◌}
+use Rattle.std.proofs.Common.{◌≡◌, ℤ, ◌+ℤ◌, ◌-ℤ◌, ◌*ℤ◌, Bool, true, false, ◌&&◌, List, [], ◌∷◌, map, Some, None, refl, sym, ap, subst, ◌∙◌}
 use Rattle.std.specs.Prelude.{filter, if◌then◌else◌}
 use Rattle.std.specs.List.{list_all}
 use Rattle.term_logic.specs.declared.term.Term.{Term, roll-Term, map-Term, fold-roll-Term}
@@ -43,8 +43,8 @@ sound-layer t (Num n) e parts = refl
 sound-layer t (Var k) e parts = sound-single t e
 sound-layer t (Own k) e parts = sound-single t e
 sound-layer t (At p) e parts = sound-single t e
-sound-layer t (Add a b) e parts = let p = both _ _ parts in sound-combined _ (form a.0) (form b.0) (a.1 p.0) (b.1 p.1)
-sound-layer t (Sub a b) e parts = let p = both _ _ parts in sound-combined _ (form a.0) (form b.0) (a.1 p.0) (b.1 p.1)
+sound-layer t (Add a b) e parts = let p = both _ _ parts in sound-combined (λ x y. x +ℤ y) (form a.0) (form b.0) (a.1 p.0) (b.1 p.1)
+sound-layer t (Sub a b) e parts = let p = both _ _ parts in sound-combined (λ x y. x -ℤ y) (form a.0) (form b.0) (a.1 p.0) (b.1 p.1)
 sound-layer t (Mul a b) e parts = let p = both _ _ parts in sound-product t (form a.0) (form b.0) e (a.1 p.0) (b.1 p.1)
 sound-layer t (One op a) e parts = sound-single t e
 sound-layer t (Two op a b) e parts = sound-single t e

@@ -7,6 +7,7 @@ use crate::term::Place;
 use wasm_values::ValType;
 
 /// The terms of a table that stand for the leaves of a term. A leaf past the end of its list has none.
+#[derive(Clone, Copy)]
 pub struct LeafIds<'a> {
     pub variables: &'a [TermId],
     pub own: &'a [TermId],
