@@ -6,7 +6,7 @@ use Rattle.term_logic.specs.declared.term.Term.{Term, roll-Term, map-Term, fold-
 use Rattle.term_logic.specs.declared.term.Term.TheOpen.{Term-F, Num, Var, Own, At, Add, Sub, Mul, One, Two, Low, Sext, Sgn}
 use Rattle.term_logic.specs.declared.forms.Normal.{Normal}
 use Rattle.term_logic.specs.Terms.{well_formed_here, well_formed}
-use Rattle.term_logic.specs.Normal.{Form, single, combined, is_constant, product, layer_form, form, on_the_way, fits, distinct, parts_of, nonzero, normal_form, well_formed_normal}
+use Rattle.term_logic.specs.Normal.{Form, single, combined, is_constant, product, layer_form, form, on_the_way, fits, distinct, parts_of, normal_form, well_formed_normal}
 use Rattle.term_logic.proofs.Truths.{both, and_true}
 use Rattle.term_logic.proofs.Sameness.{induct, map_map}
 use Rattle.term_logic.proofs.Grounded.{list_all-append}

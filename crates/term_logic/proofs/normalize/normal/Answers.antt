@@ -1,4 +1,4 @@
-use Rattle.std.proofs.Common.{rules, ◌≡◌, Some, sym, ◌∙◌}
+use Rattle.std.proofs.Common.{rules, ◌≡◌, Some, sym}
 use Rattle.std.proofs.lemmas.Int.{to_z-of_z}
 use mir.Syntax.{w128}
 use Rattle.term_logic.specs.Normal.{nonzero}
