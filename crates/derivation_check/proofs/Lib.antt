@@ -1,4 +1,5 @@
 pub mod FactLemmas
+pub mod Instances
 pub mod Progress
 pub mod StepLemmas
 pub mod Steps

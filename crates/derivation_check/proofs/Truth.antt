@@ -12,7 +12,7 @@ use Rattle.bitvector_rules.specs.declared.step.Step.{Step, Step-F, out-Step, rol
 use Rattle.bitvector_rules.specs.Goals.{step_goals}
 use Rattle.bitvector_rules.specs.Truth.{Holds, AllHold, AllMet}
 use Rattle.bitvector_rules.proofs.FormLemmas.{passed, same_holds}
-use Rattle.bitvector_rules.proofs.RuleLaws.{sound_step}
+use Rattle.bitvector_rules.proofs.RuleLaws.{sound_step, premises_true}
 use Rattle.derivation_check.specs.Derivations.{all_pass, reach, all_reach, is_instance, conclusion_of, Derives, Follows}
 use Rattle.derivation_check.proofs.Steps.{instance_is}
 
@@ -68,7 +68,7 @@ layer_holds y n hyps earlier is hs es =
     let s : Step = roll-Step l in
     let subs : (out-Step s).subs ≡ map (map step_of) y.subs = ap (λ (m : Step-F Step). m.subs) (out-roll-Step l) in
     passed (step_goals hyps earlier (out-Step s)) (all_reach Step conclusion_of is_instance (hyps ++ earlier) (out-Step s).subs) (Holds n (conclusion_of s)) (sym (instance_is s hyps earlier) ∙ is)
-    (λ gs goals reached. sound_step s n hyps earlier gs goals hs es
+    (λ gs goals reached. sound_step s n hyps earlier gs goals (premises_true n hyps earlier hs es (out-Step s).refs)
     (all_met n (hyps ++ earlier) y.subs gs (subst (λ subs. IsTrue (all_reach Step conclusion_of is_instance (hyps ++ earlier) subs gs)) subs reached) (All-append (Holds n) hyps earlier hs es)))
 
 sound : (s : Step) → StepHolds s

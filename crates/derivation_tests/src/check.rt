@@ -1,0 +1,115 @@
+ghost use Rattle.std.specs.Prelude.{◌≤◌, length, IfOk};
+ghost use Rattle.term_logic.specs.Formulas.{formula_bound};
+ghost use Rattle.bitvector_rules.specs.Facts.{AllWithin};
+
+use crate::admissible::{are_admissible, is_admissible, is_admissible_formula};
+use crate::reader::read;
+use bitvector_rules::{Step, is_instance};
+use derivation_check::{Checked, check_derivation};
+use std::alloc::Global;
+use std::test::Fail;
+use term_logic::{Formula, IdFormula, TermTable};
+use wasm_values::List;
+
+/// Adds a formula to the table.
+fn put(table: &mut TermTable, facts: &List<IdFormula>, f: &Formula) -> Result<IdFormula, Fail>
+    requires { AllWithin (length table.old) facts.now }
+    ensures within { IfOk result (λ g. formula_bound g ≤ length table.new) }
+    ensures facts { AllWithin (length table.new) facts.now }
+{
+    let _ = facts;
+    if !is_admissible_formula(f) {
+        return Err("the formula is too large".into());
+    }
+    Ok(table.put_formula(f)?)
+}
+
+/// Adds a formula to the table and to the facts.
+fn add(table: &mut TermTable, facts: &mut List<IdFormula>, f: &Formula) -> Result<(), Fail>
+    requires { AllWithin (length table.old) facts.old }
+    ensures { AllWithin (length table.new) facts.new }
+{
+    let g = put(table, facts, f)?;
+    facts.push(g)?;
+    Ok(())
+}
+
+/// The formulas over the table.
+fn put_all(
+    alloc: Global,
+    table: &mut TermTable,
+    formulas: &[Formula],
+) -> Result<List<IdFormula>, Fail>
+    ensures { IfOk result (λ fs. AllWithin (length table.new) fs) }
+{
+    let mut facts = List::new(alloc);
+    for f in formulas {
+        add(table, &mut facts, f)?;
+    }
+    Ok(facts)
+}
+
+/// What the check answers of the steps, which have to derive the goal from the hypotheses.
+pub(crate) fn derived(
+    alloc: Global,
+    hyps: &[Formula],
+    goal: &Formula,
+    steps: &List<Step>,
+) -> Result<Checked, Fail> {
+    let mut table = TermTable::new(alloc);
+    let facts = put_all(alloc, &mut table, hyps)?;
+    let goal = put(&mut table, &facts, goal)?;
+    if !are_admissible(steps.as_slice()) {
+        return Err("a formula is too large".into());
+    }
+    let answer = check_derivation(alloc, &mut table, &facts, &goal, steps)?;
+    Ok(answer)
+}
+
+/// Whether the step is an instance over the hypotheses.
+fn fits(alloc: Global, hyps: &[Formula], step: &Step) -> Result<bool, Fail> {
+    let mut table = TermTable::new(alloc);
+    let facts = put_all(alloc, &mut table, hyps)?;
+    if !is_admissible(step) {
+        return Err("a formula is too large".into());
+    }
+    let fitting = is_instance(alloc, &mut table, &facts, &List::new(alloc), step)?;
+    Ok(fitting)
+}
+
+/// Whether the step is an instance, where no hypotheses but earlier conclusions are given.
+pub(crate) fn fits_after(alloc: Global, earlier: &str, step: &str) -> Result<bool, Fail> {
+    let (earlier, _none) = read(alloc, earlier)?;
+    let (_left, steps) = read(alloc, step)?;
+    let mut table = TermTable::new(alloc);
+    let facts = put_all(alloc, &mut table, earlier.as_slice())?;
+    match steps.as_slice().last() {
+        Some(step) if is_admissible(step) => {
+            let fitting = is_instance(alloc, &mut table, &List::new(alloc), &facts, step)?;
+            Ok(fitting)
+        }
+        _ => Err("there is no small step".into()),
+    }
+}
+
+/// What the check answers of the steps. The last of the given formulas is the goal, the others are the hypotheses.
+pub(crate) fn checked(alloc: Global, given: &str, steps: &str) -> Result<Checked, Fail> {
+    let (mut hyps, _none) = read(alloc, given)?;
+    let Some(goal) = hyps.pop() else {
+        return Err("there is no goal".into());
+    };
+    let (_left, steps) = read(alloc, steps)?;
+    derived(alloc, hyps.as_slice(), &goal, &steps)
+}
+
+/// Whether a single step is an instance, and what the check answers of it, where its conclusion is the goal.
+pub(crate) fn verdict(alloc: Global, hyps: &str, step: &str) -> Result<(bool, Checked), Fail> {
+    let (hyps, _none) = read(alloc, hyps)?;
+    let (_left, steps) = read(alloc, step)?;
+    let Some(last) = steps.as_slice().last() else {
+        return Err("there is no step".into());
+    };
+    let fitting = fits(alloc, hyps.as_slice(), last)?;
+    let answer = derived(alloc, hyps.as_slice(), &last.formula, &steps)?;
+    Ok((fitting, answer))
+}
