@@ -16,7 +16,10 @@ pub(crate) enum Ended {
 /// many steps. The function has an i32 and an i64 as locals. Around it are a mutable global of 5, a page of memory that may
 /// become two, with the bytes 1 to 7 and 0xf8 at its beginning, and a table of two entries, of which the first is function 1.
 /// Function 1 gives the i32 7, function 2 the difference of its two i32, and function 3 traps.
-pub(crate) const ROWS: &[(u8, &[u8], Ended, u32)] = &[
+pub(crate) type Row = (u8, &'static [u8], Ended, u32);
+
+/// These functions.
+pub(crate) const ROWS: &[Row] = &[
     // nop
     (0, &[0x01, 0x0b], Nothing, 2),
     // unreachable

@@ -5,7 +5,7 @@ ghost use Rattle.type_safety.specs.Typed.{Typed};
 ghost use Rattle.wasm_instantiate.specs.Instantiation.{IsAtRest};
 
 use crate::marking::marks_of;
-use crate::rows::{Ended, ROWS};
+use crate::rows::{Ended, ROWS, Row};
 use std::alloc::Global;
 use std::test::Fail;
 use type_safety::the_first_is_typed;
@@ -124,12 +124,20 @@ fn ran(alloc: Global, ty: u8, body: &[u8]) -> Result<(Ended, u32), Fail> {
     Ok((end_of_run(config.outcome()), steps))
 }
 
+/// The first of these rows whose function comes to something else, or takes another number of steps.
+fn first_other(alloc: Global, rows: &[Row]) -> Result<Option<usize>, Fail> {
+    for i in 0..rows.len() {
+        let row = &rows[i];
+        if ran(alloc, row.0, row.1)? != (row.2, row.3) {
+            return Ok(Some(i));
+        }
+    }
+    Ok(None)
+}
+
 #[test]
 fn bodies_are_run(rt: HostRuntime) -> Result<(), Fail> {
-    let alloc = rt.alloc();
-    for (ty, body, end, steps) in ROWS {
-        assert_eq!(rt; ran(alloc, *ty, body)?, (*end, *steps));
-    }
+    assert_eq!(rt; first_other(rt.alloc(), ROWS)?, None);
     Ok(())
 }
 
