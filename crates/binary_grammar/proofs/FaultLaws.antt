@@ -1,7 +1,6 @@
 -- An item that is not accepted has a word or a limit, and never want of memory.
-use Rattle.std.proofs.Common.{◌≡◌, ℕ, ltb, eqb, leb, not, ◌&&◌, ◌||◌, Bool, true, false, cond, ◌+◌, List, [], ◌∷◌, length, take, drop, Result, Ok, Err, ◌⊎◌, inl, inr, refl, sym, subst, ◌∙◌}
+use Rattle.std.proofs.Common.{◌≡◌, ℕ, ltb, eqb, leb, not, ◌&&◌, ◌||◌, Bool, true, false, cond, ◌+◌, List, [], ◌∷◌, length, Result, Ok, Err, ◌⊎◌, inl, inr, refl, sym, subst, ◌∙◌}
 use Rattle.std.specs.Str.{is_utf8}
-use Rattle.wasm_values.specs.declared.number.ValType.{ValType}
 use Rattle.wasm_syntax.specs.declared.kind.Opcode.{Opcode}
 use Rattle.wasm_syntax.specs.declared.kind.Opcode.TheVariants as op
 use Rattle.wasm_syntax.specs.declared.kind.Kind.{Kind}

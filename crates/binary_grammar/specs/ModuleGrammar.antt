@@ -84,7 +84,7 @@ abbrev pub given : {A : Type 0} → (Section → Option A) → A → List Sectio
 given kind none [] = none
 given kind none (s ∷ ss) = unwrap_or (kind s) (given kind none ss)
 
--- What sections of each kind give: entries and their places.
+-- The kinds of sections that are not custom, and what one of each kind gives: its entries and their places (5.5.4 to 5.5.14).
 abbrev pub type_section : Section → Option (List FuncType × List ℕ)
 type_section (section.Types es ps) = Some (es, ps)
 type_section _ = None
