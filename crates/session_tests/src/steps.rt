@@ -14,7 +14,7 @@ use wasm_instantiate::{add_host, instantiate, invoke};
 use wasm_reduce::{Moved, Policy, step};
 use wasm_store::{Config, Extern, Outcome};
 use wasm_syntax::FuncType;
-use wasm_validate::validate;
+use wasm_validate::{ValidModule, validate};
 use wasm_values::{List, Val, ValType};
 
 const POLICY: Policy = Policy {
@@ -65,14 +65,19 @@ fn end_of_run(outcome: &Outcome) -> Ended {
     }
 }
 
+/// The valid module that the bytes spell.
+fn made(alloc: Global, bytes: &[u8]) -> Result<ValidModule, Fail> {
+    let module = decode(alloc, bytes)?.module;
+    let marks = marks_of(alloc, &module)?;
+    Ok(validate(alloc, module, &marks)?)
+}
+
 /// A configuration in which the module that the bytes spell is instantiated alone.
 fn instantiated(alloc: Global, bytes: &[u8]) -> Result<Config, Fail>
     ensures { IfOk result Typed }
 {
     the_first_is_typed();
-    let module = decode(alloc, bytes)?.module;
-    let marks = marks_of(alloc, &module)?;
-    let valid = validate(alloc, module, &marks)?;
+    let valid = made(alloc, bytes)?;
     let mut config = Config::new(alloc);
     instantiate(alloc, &mut config, &valid, &Vec::new(alloc), &POLICY)?;
     Ok(config)
@@ -124,11 +129,16 @@ fn ran(alloc: Global, ty: u8, body: &[u8]) -> Result<(Ended, u32), Fail> {
     Ok((end_of_run(config.outcome()), steps))
 }
 
-/// The first of these rows whose function comes to something else, or takes another number of steps.
+/// Whether a row's function comes to what the row says, after as many steps.
+fn is_as_said(alloc: Global, row: &Row) -> Result<bool, Fail> {
+    let (end, steps) = ran(alloc, row.0, row.1)?;
+    Ok(end == row.2 && steps == row.3)
+}
+
+/// The first of these rows that says something else.
 fn first_other(alloc: Global, rows: &[Row]) -> Result<Option<usize>, Fail> {
     for i in 0..rows.len() {
-        let row = &rows[i];
-        if ran(alloc, row.0, row.1)? != (row.2, row.3) {
+        if !is_as_said(alloc, &rows[i])? {
             return Ok(Some(i));
         }
     }
@@ -149,13 +159,20 @@ const COUNTING: &[u8] = &[
     0x0b, 0x20, 0x00, 0x0b,
 ];
 
-#[test]
-fn the_last_step_is_done(rt: HostRuntime) -> Result<(), Fail> {
-    let alloc = rt.alloc();
+/// What the function comes to, after how many steps, and what the last step answers.
+fn counted(alloc: Global) -> Result<(Ended, u32, Option<Moved>), Fail> {
     let mut config = instantiated(alloc, COUNTING)?;
     enter(alloc, &mut config, 0)?;
-    assert_eq!(rt; run_out(alloc, &mut config)?, (21, Some(Moved::Done)));
-    assert_eq!(rt; end_of_run(config.outcome()), Ended::I32(0));
+    let (steps, moved) = run_out(alloc, &mut config)?;
+    Ok((end_of_run(config.outcome()), steps, moved))
+}
+
+#[test]
+fn the_last_step_is_done(rt: HostRuntime) -> Result<(), Fail> {
+    let (end, steps, moved) = counted(rt.alloc())?;
+    assert_eq!(rt; end, Ended::I32(0));
+    assert_eq!(rt; steps, 21);
+    assert_eq!(rt; moved, Some(Moved::Done));
     Ok(())
 }
 
@@ -185,30 +202,39 @@ fn linked(alloc: Global, bytes: &[u8]) -> Result<Config, Fail>
     the_first_is_typed();
     let mut config = Config::new(alloc);
     let host = add_host(alloc, &mut config, &takes_one(alloc)?)?;
-    let module = decode(alloc, bytes)?.module;
-    let marks = marks_of(alloc, &module)?;
-    let valid = validate(alloc, module, &marks)?;
+    let valid = made(alloc, bytes)?;
     let externs = Vec::from_slice(alloc, &[host])?;
     instantiate(alloc, &mut config, &valid, &externs, &POLICY)?;
     Ok(config)
 }
 
-/// The arguments of the host's function on top, or none where there is none.
-fn arguments(config: &Config) -> &[Val] {
+/// The first argument of the host's function on top, or none where there is none.
+fn first_argument(config: &Config) -> Option<Val> {
     if config.host_top().is_none() {
-        return &[];
+        return None;
     }
-    config.host_args().as_slice()
+    config.host_args().as_slice().first().copied()
+}
+
+/// At which step a host's function is found on top, which one, over how many frames in all, and with which argument.
+fn called(alloc: Global) -> Result<(u32, Option<u32>, usize, Option<Val>), Fail> {
+    let mut config = linked(alloc, CALLING)?;
+    enter(alloc, &mut config, 1)?;
+    let (steps, _) = run_out(alloc, &mut config)?;
+    Ok((
+        steps,
+        config.host_top(),
+        config.frame_count(),
+        first_argument(&config),
+    ))
 }
 
 #[test]
 fn a_host_is_called(rt: HostRuntime) -> Result<(), Fail> {
-    let alloc = rt.alloc();
-    let mut config = linked(alloc, CALLING)?;
-    enter(alloc, &mut config, 1)?;
-    assert_eq!(rt; run_out(alloc, &mut config)?, (3, None));
-    assert_eq!(rt; config.host_top(), Some(0));
-    assert_eq!(rt; config.frame_count(), 2);
-    assert_eq!(rt; arguments(&config), [Val::I32(7)].as_slice());
+    let (steps, host, frames, argument) = called(rt.alloc())?;
+    assert_eq!(rt; steps, 3);
+    assert_eq!(rt; host, Some(0));
+    assert_eq!(rt; frames, 2);
+    assert_eq!(rt; argument, Some(Val::I32(7)));
     Ok(())
 }
