@@ -113,3 +113,65 @@ pub(crate) fn verdict(alloc: Global, hyps: &str, step: &str) -> Result<(bool, Ch
     let answer = derived(alloc, hyps.as_slice(), &last.formula, &steps)?;
     Ok((fitting, answer))
 }
+
+/// Whether the row is right: behind the hypotheses stand a step that is accepted, and one that is refused.
+fn is_right(alloc: Global, row: &str) -> Result<bool, Fail> {
+    let Some((hyps, steps)) = row.split_once('|') else {
+        return Err("no step".into());
+    };
+    let Some((accepted, refused)) = steps.split_once('|') else {
+        return Err("no second step".into());
+    };
+    let first = verdict(alloc, hyps, accepted)?;
+    let second = verdict(alloc, hyps, refused)?;
+    Ok(first == (true, Checked::Yes) && second == (false, Checked::BadStep(0)))
+}
+
+/// The first row of a table that is wrong.
+pub(crate) fn wrong_row(alloc: Global, table: &str) -> Result<Option<usize>, Fail> {
+    for (k, row) in table.lines().enumerate() {
+        if !is_right(alloc, row)? {
+            return Ok(Some(k));
+        }
+    }
+    Ok(None)
+}
+
+/// The first line whose step has another verdict.
+pub(crate) fn wrong_step(
+    alloc: Global,
+    hyps: &str,
+    steps: &str,
+    wanted: (bool, Checked),
+) -> Result<Option<usize>, Fail> {
+    for (k, step) in steps.lines().enumerate() {
+        if verdict(alloc, hyps, step)? != wanted {
+            return Ok(Some(k));
+        }
+    }
+    Ok(None)
+}
+
+/// The answer that a word spells: `yes`, or the position of a bad step.
+fn answer(word: &str) -> Result<Checked, Fail> {
+    match word {
+        "yes" => Ok(Checked::Yes),
+        _ => match word.parse::<usize>() {
+            Ok(k) => Ok(Checked::BadStep(k)),
+            Err(_) => Err("no answer".into()),
+        },
+    }
+}
+
+/// The first line whose steps have another answer than the word before them says.
+pub(crate) fn wrong_answer(alloc: Global, given: &str, lines: &str) -> Result<Option<usize>, Fail> {
+    for (k, line) in lines.lines().enumerate() {
+        let Some((word, steps)) = line.split_once('|') else {
+            return Err("no steps".into());
+        };
+        if checked(alloc, given, steps)? != answer(word)? {
+            return Ok(Some(k));
+        }
+    }
+    Ok(None)
+}
