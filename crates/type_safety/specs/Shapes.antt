@@ -19,7 +19,7 @@ use Rattle.wasm_store.specs.Control.{type_of_inst}
 abbrev pub types : List Val → List ValType
 types values = map type_of values
 
--- Values have these types, and each lies in the range of its type (section 2.3.1).
+-- Values have these types, and each lies in the range of its type (sections 2.2.2 and 2.3.1).
 abbrev pub HaveTypes : List Val → List ValType → Type 0
 HaveTypes values ts = (types values ≡ ts) × All ValInRange values
 

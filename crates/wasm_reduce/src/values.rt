@@ -9,9 +9,7 @@ ghost use Rattle.wasm_reduce.specs.Acts.{Can, Acts, SameCode, seen_in, moved_to,
 
 use crate::effect::Effect;
 use crate::find::{global, global_address, memory_address};
-use crate::memory::{
-    grow_memory, is_within, lets_grow, page_count, value_at, write_number,
-};
+use crate::memory::{grow_memory, is_within, lets_grow, page_count, value_at, write_number};
 use crate::operands::{
     compute_one, compute_two, is_unary, pop, pop_number, push, set_top, top_number,
 };
