@@ -9,7 +9,7 @@ use Rattle.binary_grammar.proofs.FaultLaws.{some_answer, of_bytes}
 use Rattle.binary_grammar.proofs.ModuleLaws.{module_takes}
 use Rattle.binary_grammar.proofs.PlanModule.{reads_module}
 use Rattle.rw_edge.specs.Files.{contents_of}
-use Rattle.verify_command.specs.Lines.{bound_line, malformed_line}
+use Rattle.verify_command.specs.Lines.{limit_line, malformed_line}
 use Rattle.verify_command.specs.declared.status.Status.TheVariants as status
 use Rattle.verify_command.specs.Reports.{Report, ReportsOf, Files, IsFaultReport, OfFile, OfBytes, OfShown, OfShow, nothing_read, module_limit, module_too_long, module_listed}
 
@@ -28,7 +28,7 @@ file_some limit long Next next (Some c) =
 
 fault_some : (bytes : List ℕ) (f : DecodeFault) → Fault the_bounds bytes f → (r : Report) × IsFaultReport f r
 fault_some bytes (decode.Malformed at w) h = (record { text = malformed_line w at; status = status.Negative }, refl)
-fault_some bytes (decode.Limit at w) h = (record { text = bound_line w at; status = status.Limit }, refl)
+fault_some bytes (decode.Limit at w) h = (record { text = limit_line w at; status = status.Limit }, refl)
 fault_some bytes decode.OutOfMemory h = absurd (of_bytes the_bounds bytes h)
 
 shown_some : (bytes : List ℕ) → (r : Report) × OfShown bytes r
