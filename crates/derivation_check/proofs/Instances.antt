@@ -1,6 +1,5 @@
 -- Instances and their shape.
-use Rattle.std.proofs.Common.{◌≡◌, ◌-◌, true, IsTrue, List, [], ◌∷◌, ◌++◌, length, slice_get, Some, refl, sym, ap, subst, ◌∙◌}
-use Rattle.std.specs.Option.{option_map}
+use Rattle.std.proofs.Common.{◌≡◌, IsTrue, List, [], ◌∷◌, ◌++◌, refl, sym, ap, subst, ◌∙◌}
 use Rattle.term_logic.specs.declared.term.Formula.{Formula}
 use Rattle.term_logic.specs.Same.{passes, same_formula}
 use Rattle.term_logic.proofs.Truths.{both, and_true}

@@ -37,7 +37,10 @@ a 1 <= a 1 <= imp !assume";
 #[test]
 fn a_step_has_what_its_rule_wants_and_no_more(rt: HostRuntime) -> Result<(), Fail> {
     let refused = (false, Checked::BadStep(0));
-    assert_eq!(rt; wrong_step(rt.alloc(), "a 1 <= b 1 <=", MISSHAPEN, refused)?, None);
+    assert_eq!(rt;
+        wrong_step(rt.alloc(), "a 1 <= b 1 <=", MISSHAPEN, refused)?,
+        None
+    );
     Ok(())
 }
 
@@ -52,13 +55,17 @@ yes|a 1 <= h0 !hyp a 1 <= s0 !hyp
 
 #[test]
 fn the_first_bad_step_is_told(rt: HostRuntime) -> Result<(), Fail> {
-    assert_eq!(rt; wrong_answer(rt.alloc(), "a 1 <= b 1 <= a 1 <=", BAD_STEPS)?, None);
+    assert_eq!(rt;
+        wrong_answer(rt.alloc(), "a 1 <= b 1 <= a 1 <=", BAD_STEPS)?,
+        None
+    );
     Ok(())
 }
 
 /// The hypotheses of a sub-derivation are those around it, the conclusions before it, and its assumption: in the first
 /// lines `a <= 1`, the disjunction and `b <= 1`. The answer stands before the steps.
-const SEEN: &str = "yes|a 1 <= b 1 <= or h0 !orl b 1 <= a 1 <= b 1 <= and imp [ a 1 <= h0 !hyp a 1 <= b 1 <= and s0 h2 !and ] !assume
+const SEEN: &str =
+    "yes|a 1 <= b 1 <= or h0 !orl b 1 <= a 1 <= b 1 <= and imp [ a 1 <= h0 !hyp a 1 <= b 1 <= and s0 h2 !and ] !assume
 yes|a 1 <= b 1 <= or h0 !orl b 1 <= a 1 <= b 1 <= and imp [ a 1 <= b 1 <= or h1 !hyp a 1 <= b 1 <= and h0 h2 !and ] !assume
 1|a 1 <= b 1 <= or h0 !orl b 1 <= a 1 <= b 1 <= and imp [ a 1 <= b 1 <= and h0 h1 !and ] !assume
 1|a 1 <= b 1 <= or h0 !orl b 1 <= a 1 <= b 1 <= and imp [ a 1 <= b 1 <= or s0 !hyp a 1 <= b 1 <= and h0 h2 !and ] !assume
@@ -74,7 +81,8 @@ fn what_a_sub_derivation_sees(rt: HostRuntime) -> Result<(), Fail> {
 }
 
 /// Steps from `(or (<= a 1) (<= b 1))` whose sub-derivations end as they have to, and are bad.
-const BAD_WITHIN: &str = "b 1 <= a 1 <= or h0 [ b 1 <= a 1 <= or h1 !orr ] [ b 1 <= a 1 <= or h1 !orr ] !cases
+const BAD_WITHIN: &str =
+    "b 1 <= a 1 <= or h0 [ b 1 <= a 1 <= or h1 !orr ] [ b 1 <= a 1 <= or h1 !orr ] !cases
 b 1 <= a 1 <= or h0 [ b 1 <= a 1 <= or h1 !orl ] [ b 1 <= a 1 <= or h1 !orl ] !cases
 a 1 <= b 1 <= imp [ b 1 <= h1 !hyp ] !assume
 a 1 <= [ false h1 h0 !clash ] !contra
@@ -83,7 +91,10 @@ a 1 <= not [ false h0 !explode ] !refute";
 #[test]
 fn sub_derivations_are_checked(rt: HostRuntime) -> Result<(), Fail> {
     let bad = (true, Checked::BadStep(0));
-    assert_eq!(rt; wrong_step(rt.alloc(), "a 1 <= b 1 <= or", BAD_WITHIN, bad)?, None);
+    assert_eq!(rt;
+        wrong_step(rt.alloc(), "a 1 <= b 1 <= or", BAD_WITHIN, bad)?,
+        None
+    );
     Ok(())
 }
 

@@ -111,8 +111,14 @@ fn a_thousand_steps_over_4096_facts(rt: HostRuntime) -> Result<(), Fail> {
         steps.push(sum_step(alloc, k, 4095 - k)?)?;
     }
     let goal = summed(alloc, 999, 3096)?;
-    assert_eq!(rt; derived(alloc, facts.as_slice(), &goal, &steps)?, Checked::Yes);
+    assert_eq!(rt;
+        derived(alloc, facts.as_slice(), &goal, &steps)?,
+        Checked::Yes
+    );
     let other = summed(alloc, 999, 3095)?;
-    assert_eq!(rt; derived(alloc, facts.as_slice(), &other, &steps)?, Checked::BadStep(1000));
+    assert_eq!(rt;
+        derived(alloc, facts.as_slice(), &other, &steps)?,
+        Checked::BadStep(1000)
+    );
     Ok(())
 }

@@ -2,7 +2,8 @@ use crate::check::wrong_row;
 use std::test::Fail;
 
 /// Ranges and arithmetic. Each line has hypotheses, a step that is accepted, and one that is refused.
-const ARITHMETIC: &str = " | 0 a b i32.lt_s <= a b i32.lt_s 1 <= and !range | 0 a b i32.lt_s <= a b i32.lt_s 0 <= and !range
+const ARITHMETIC: &str =
+    " | 0 a b i32.lt_s <= a b i32.lt_s 1 <= and !range | 0 a b i32.lt_s <= a b i32.lt_s 0 <= and !range
  | 0 a i64.eqz <= a i64.eqz 1 <= and !range | 0 a i64.eqz <= a i64.eqz 18446744073709551615 <= and !range
  | 0 a i32.clz <= a i32.clz 32 <= and !range | 0 a i32.clz <= a i32.clz 31 <= and !range
  | 0 a i64.ctz <= a i64.ctz 64 <= and !range | 0 a i64.ctz <= a i64.ctz 32 <= and !range
@@ -35,7 +36,8 @@ a 18446744073709551615 <= b 18446744073709551615 <= 18446744073709551616 a b + <
 0 a <= a 9223372036854775807 <= 1 b <= b 9223372036854775807 <= b 9223372036854775808 <= | a b i64.div_s a b i64.div_u = a b i64.rem_s a b i64.rem_u = and h0 h1 h2 h3 !divs | a b i64.div_s a b i64.div_u = a b i64.rem_s a b i64.rem_u = and h0 h1 h2 h4 !divs";
 
 /// Comparisons, digits and changes of width. Each line has hypotheses, a step that is accepted, and one that is refused.
-const DIGITS: &str = "0 a <= a 4294967295 <= 0 b <= b 4294967295 <= | a b i32.eq 1 = a b = and a b i32.eq 0 = a b = not and or h0 h1 h2 h3 !test | a b i32.eq 1 = b a = and a b i32.eq 0 = b a = not and or h0 h1 h2 h3 !test
+const DIGITS: &str =
+    "0 a <= a 4294967295 <= 0 b <= b 4294967295 <= | a b i32.eq 1 = a b = and a b i32.eq 0 = a b = not and or h0 h1 h2 h3 !test | a b i32.eq 1 = b a = and a b i32.eq 0 = b a = not and or h0 h1 h2 h3 !test
 0 a <= a 18446744073709551615 <= 0 b <= b 18446744073709551615 <= | a b i64.ne 1 = a b = not and a b i64.ne 0 = a b = not not and or h0 h1 h2 h3 !test | a b i64.ne 1 = a b = and a b i64.ne 0 = a b = not and or h0 h1 h2 h3 !test
 0 a <= a 4294967295 <= 0 b <= b 4294967295 <= | a b i32.lt_u 1 = a b < and a b i32.lt_u 0 = a b < not and or h0 h1 h2 h3 !test | a b i32.lt_u 1 = a b <= and a b i32.lt_u 0 = a b <= not and or h0 h1 h2 h3 !test
 0 a <= a 18446744073709551615 <= 0 b <= b 18446744073709551615 <= | a b i64.gt_u 1 = b a < and a b i64.gt_u 0 = b a < not and or h0 h1 h2 h3 !test | a b i64.gt_u 1 = a b < and a b i64.gt_u 0 = a b < not and or h0 h1 h2 h3 !test
