@@ -18,8 +18,8 @@ pub(crate) enum Ended {
 /// Function 1 gives the i32 7, function 2 the difference of its two i32, and function 3 traps.
 pub(crate) type Row = (u8, &'static [u8], Ended, u32);
 
-/// These functions.
-pub(crate) const ROWS: &[Row] = &[
+/// Constants, operands, locals, globals and memory.
+pub(crate) const STATE: &[Row] = &[
     // nop
     (0, &[0x01, 0x0b], Nothing, 2),
     // unreachable
@@ -177,6 +177,10 @@ pub(crate) const ROWS: &[Row] = &[
         I32(0),
         6,
     ),
+];
+
+/// Blocks, branches and calls.
+pub(crate) const CONTROL: &[Row] = &[
     // block
     (1, &[0x02, 0x7f, 0x41, 3, 0x0b, 0x0b], I32(3), 4),
     // loop
@@ -273,6 +277,10 @@ pub(crate) const ROWS: &[Row] = &[
     (1, &[0x41, 2, 0x11, 1, 0, 0x0b], Trapped, 2),
     // call_indirect of another type
     (0, &[0x41, 0, 0x11, 0, 0, 0x0b], Trapped, 2),
+];
+
+/// Comparisons.
+pub(crate) const COMPARISONS: &[Row] = &[
     // i32.eqz
     (1, &[0x41, 0, 0x45, 0x0b], I32(1), 3),
     (1, &[0x41, 5, 0x45, 0x0b], I32(0), 3),
@@ -332,6 +340,10 @@ pub(crate) const ROWS: &[Row] = &[
     (1, &[0x42, 0x7f, 0x42, 1, 0x59, 0x0b], I32(0), 4),
     // i64.ge_u
     (1, &[0x42, 0x7f, 0x42, 1, 0x5a, 0x0b], I32(1), 4),
+];
+
+/// The other operators on i32.
+pub(crate) const OPERATORS_32: &[Row] = &[
     // i32.clz
     (1, &[0x41, 1, 0x67, 0x0b], I32(31), 3),
     (1, &[0x41, 0, 0x67, 0x0b], I32(32), 3),
@@ -403,6 +415,10 @@ pub(crate) const ROWS: &[Row] = &[
     // i32.rotr
     (1, &[0x41, 1, 0x41, 1, 0x78, 0x0b], I32(0x8000_0000), 4),
     (1, &[0x41, 48, 0x41, 36, 0x78, 0x0b], I32(3), 4),
+];
+
+/// The other operators on i64, and conversions.
+pub(crate) const OPERATORS_64: &[Row] = &[
     // i64.clz
     (2, &[0x42, 1, 0x79, 0x0b], I64(63), 3),
     // i64.ctz

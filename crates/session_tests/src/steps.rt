@@ -5,7 +5,7 @@ ghost use Rattle.type_safety.specs.Typed.{Typed};
 ghost use Rattle.wasm_instantiate.specs.Instantiation.{IsAtRest};
 
 use crate::marking::marks_of;
-use crate::rows::{Ended, ROWS, Row};
+use crate::rows::{COMPARISONS, CONTROL, Ended, OPERATORS_32, OPERATORS_64, Row, STATE};
 use std::alloc::Global;
 use std::test::Fail;
 use type_safety::the_first_is_typed;
@@ -146,8 +146,32 @@ fn first_other(alloc: Global, rows: &[Row]) -> Result<Option<usize>, Fail> {
 }
 
 #[test]
-fn bodies_are_run(rt: HostRuntime) -> Result<(), Fail> {
-    assert_eq!(rt; first_other(rt.alloc(), ROWS)?, None);
+fn state_is_read_and_written(rt: HostRuntime) -> Result<(), Fail> {
+    assert_eq!(rt; first_other(rt.alloc(), STATE)?, None);
+    Ok(())
+}
+
+#[test]
+fn control_goes_on(rt: HostRuntime) -> Result<(), Fail> {
+    assert_eq!(rt; first_other(rt.alloc(), CONTROL)?, None);
+    Ok(())
+}
+
+#[test]
+fn comparisons_are_run(rt: HostRuntime) -> Result<(), Fail> {
+    assert_eq!(rt; first_other(rt.alloc(), COMPARISONS)?, None);
+    Ok(())
+}
+
+#[test]
+fn operators_on_i32_are_run(rt: HostRuntime) -> Result<(), Fail> {
+    assert_eq!(rt; first_other(rt.alloc(), OPERATORS_32)?, None);
+    Ok(())
+}
+
+#[test]
+fn operators_on_i64_are_run(rt: HostRuntime) -> Result<(), Fail> {
+    assert_eq!(rt; first_other(rt.alloc(), OPERATORS_64)?, None);
     Ok(())
 }
 
