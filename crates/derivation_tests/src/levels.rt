@@ -30,42 +30,54 @@ fn one<T: Drop>(alloc: Global, item: T) -> Result<List<T>, OutOfMemory> {
     Ok(items)
 }
 
-/// Derives the first bound inside of all assumptions, by one of them.
-fn nested(alloc: Global, reference: u32) -> Result<List<Step>, OutOfMemory> {
-    let innermost = Step {
+/// The first bound, by a hypothesis.
+fn by_hypothesis(alloc: Global, reference: u32) -> Result<Step, OutOfMemory> {
+    let refs = one(alloc, Ref::Hyp(reference))?;
+    Ok(Step {
         rule: Rule::Hyp,
         formula: bound(0),
-        refs: one(alloc, Ref::Hyp(reference))?,
+        refs,
         numbers: List::new(alloc),
         subs: List::new(alloc),
-    };
-    let mut steps = one(alloc, innermost)?;
+    })
+}
+
+/// The chain from the k-th bound on, by a sub-derivation of one step.
+fn assuming(alloc: Global, k: u32, step: Step) -> Result<Step, OutOfMemory> {
+    let formula = chain(alloc, k)?;
+    let steps = one(alloc, step)?;
+    let subs = one(alloc, steps)?;
+    Ok(Step {
+        rule: Rule::Assume,
+        formula,
+        refs: List::new(alloc),
+        numbers: List::new(alloc),
+        subs,
+    })
+}
+
+/// Derives the first bound inside of all assumptions, by one of them.
+fn nested(alloc: Global, reference: u32) -> Result<List<Step>, OutOfMemory> {
+    let mut step = by_hypothesis(alloc, reference)?;
     for k in (0..LEVELS).rev() {
-        let step = Step {
-            rule: Rule::Assume,
-            formula: chain(alloc, k)?,
-            refs: List::new(alloc),
-            numbers: List::new(alloc),
-            subs: one(alloc, steps)?,
-        };
-        steps = one(alloc, step)?;
+        step = assuming(alloc, k, step)?;
     }
-    Ok(steps)
+    one(alloc, step)
+}
+
+/// What the check answers of the nested derivation.
+fn nested_answer(alloc: Global, reference: u32) -> Result<Checked, Fail> {
+    let goal = chain(alloc, 0)?;
+    let steps = nested(alloc, reference)?;
+    derived(alloc, &[], &goal, &steps)
 }
 
 #[test]
 fn a_sub_derivation_at_level_50(rt: HostRuntime) -> Result<(), Fail> {
     let alloc = rt.alloc();
-    let goal = chain(alloc, 0)?;
-    for (reference, answer) in [
-        (0, Checked::Yes),
-        (1, Checked::BadStep(0)),
-        (49, Checked::BadStep(0)),
-        (50, Checked::BadStep(0)),
-    ] {
-        let steps = nested(alloc, reference)?;
-        assert_eq!(rt; derived(alloc, &[], &goal, &steps)?, answer);
-    }
+    assert_eq!(rt; nested_answer(alloc, 0)?, Checked::Yes);
+    assert_eq!(rt; nested_answer(alloc, 1)?, Checked::BadStep(0));
+    assert_eq!(rt; nested_answer(alloc, 50)?, Checked::BadStep(0));
     Ok(())
 }
 
@@ -87,38 +99,43 @@ fn summed(alloc: Global, j: u32, k: u32) -> Result<Formula, OutOfMemory> {
     Ok(Formula::Le(low, high))
 }
 
-/// Adds the sum of the j-th and the k-th bound.
+/// Adds the j-th and the k-th bound.
 fn sum_step(alloc: Global, j: u32, k: u32) -> Result<Step, OutOfMemory> {
+    let formula = summed(alloc, j, k)?;
     let mut refs = one(alloc, Ref::Hyp(j))?;
     refs.push(Ref::Hyp(k))?;
     let mut numbers = one(alloc, 1)?;
     numbers.push(1)?;
     Ok(Step {
         rule: Rule::Linear,
-        formula: summed(alloc, j, k)?,
+        formula,
         refs,
         numbers,
         subs: List::new(alloc),
     })
 }
 
-#[test]
-fn a_thousand_steps_over_4096_facts(rt: HostRuntime) -> Result<(), Fail> {
-    let alloc = rt.alloc();
-    let facts = bounds(alloc, 4096)?;
+/// A thousand sums of two bounds.
+fn sums(alloc: Global) -> Result<List<Step>, OutOfMemory> {
     let mut steps = List::new(alloc);
     for k in 0..1000 {
         steps.push(sum_step(alloc, k, 4095 - k)?)?;
     }
-    let goal = summed(alloc, 999, 3096)?;
-    assert_eq!(rt;
-        derived(alloc, facts.as_slice(), &goal, &steps)?,
-        Checked::Yes
-    );
-    let other = summed(alloc, 999, 3095)?;
-    assert_eq!(rt;
-        derived(alloc, facts.as_slice(), &other, &steps)?,
-        Checked::BadStep(1000)
-    );
+    Ok(steps)
+}
+
+/// What the check answers of the sums, where the last has to be that of the 999th and the k-th bound.
+fn sums_answer(alloc: Global, k: u32) -> Result<Checked, Fail> {
+    let facts = bounds(alloc, 4096)?;
+    let steps = sums(alloc)?;
+    let goal = summed(alloc, 999, k)?;
+    derived(alloc, facts.as_slice(), &goal, &steps)
+}
+
+#[test]
+fn a_thousand_steps_over_4096_facts(rt: HostRuntime) -> Result<(), Fail> {
+    let alloc = rt.alloc();
+    assert_eq!(rt; sums_answer(alloc, 3096)?, Checked::Yes);
+    assert_eq!(rt; sums_answer(alloc, 3095)?, Checked::BadStep(1000));
     Ok(())
 }
