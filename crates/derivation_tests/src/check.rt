@@ -92,14 +92,40 @@ pub(crate) fn fits_after(alloc: Global, earlier: &str, step: &str) -> Result<boo
     }
 }
 
-/// What the check answers of the steps. The last of the given formulas is the goal, the others are the hypotheses.
-pub(crate) fn checked(alloc: Global, given: &str, steps: &str) -> Result<Checked, Fail> {
-    let (mut hyps, _none) = read(alloc, given)?;
-    let Some(goal) = hyps.pop() else {
-        return Err("there is no goal".into());
-    };
+/// What the check answers of the steps, which have to derive the last of the goals from the hypotheses.
+fn derived_last(
+    alloc: Global,
+    hyps: &[Formula],
+    goals: &[Formula],
+    steps: &List<Step>,
+) -> Result<Checked, Fail> {
+    match goals.last() {
+        Some(goal) => derived(alloc, hyps, goal, steps),
+        None => Err("there is no goal".into()),
+    }
+}
+
+/// What the check answers of the steps, which have to derive the goal from the hypotheses.
+pub(crate) fn checked(
+    alloc: Global,
+    hyps: &str,
+    goal: &str,
+    steps: &str,
+) -> Result<Checked, Fail> {
+    let (hyps, _none) = read(alloc, hyps)?;
+    let (goals, steps) = read_both(alloc, goal, steps)?;
+    derived_last(alloc, hyps.as_slice(), goals.as_slice(), &steps)
+}
+
+/// The formulas of the first text and the steps of the second.
+fn read_both(
+    alloc: Global,
+    formulas: &str,
+    steps: &str,
+) -> Result<(List<Formula>, List<Step>), Fail> {
+    let (formulas, _none) = read(alloc, formulas)?;
     let (_left, steps) = read(alloc, steps)?;
-    derived(alloc, hyps.as_slice(), &goal, &steps)
+    Ok((formulas, steps))
 }
 
 /// Whether a single step is an instance, and what the check answers of it, where its conclusion is the goal.
@@ -163,13 +189,25 @@ fn answer(word: &str) -> Result<Checked, Fail> {
     }
 }
 
+/// Whether the steps of the line have the answer that the word before them says.
+fn is_answered(alloc: Global, hyps: &str, goal: &str, line: &str) -> Result<bool, Fail> {
+    let Some((word, steps)) = line.split_once('|') else {
+        return Err("no steps".into());
+    };
+    let wanted = answer(word)?;
+    let given = checked(alloc, hyps, goal, steps)?;
+    Ok(given == wanted)
+}
+
 /// The first line whose steps have another answer than the word before them says.
-pub(crate) fn wrong_answer(alloc: Global, given: &str, lines: &str) -> Result<Option<usize>, Fail> {
+pub(crate) fn wrong_answer(
+    alloc: Global,
+    hyps: &str,
+    goal: &str,
+    lines: &str,
+) -> Result<Option<usize>, Fail> {
     for (k, line) in lines.lines().enumerate() {
-        let Some((word, steps)) = line.split_once('|') else {
-            return Err("no steps".into());
-        };
-        if checked(alloc, given, steps)? != answer(word)? {
+        if !is_answered(alloc, hyps, goal, line)? {
             return Ok(Some(k));
         }
     }

@@ -7,9 +7,9 @@ use std::test::Fail;
 fn coefficient_bound(rt: HostRuntime) -> Result<(), Fail> {
     let alloc = rt.alloc();
     let past = "0 0 = h0 #79228162514264337593543950336 !linear";
-    assert_eq!(rt; checked(alloc, "0 0 = 0 0 =", past)?, Checked::BadStep(0));
+    assert_eq!(rt; checked(alloc, "0 0 =", "0 0 =", past)?, Checked::BadStep(0));
     let last = "0 0 = h0 #79228162514264337593543950335 !linear";
-    assert_eq!(rt; checked(alloc, "0 0 = 0 0 =", last)?, Checked::Yes);
+    assert_eq!(rt; checked(alloc, "0 0 =", "0 0 =", last)?, Checked::Yes);
     Ok(())
 }
 
@@ -56,7 +56,7 @@ yes|a 1 <= h0 !hyp a 1 <= s0 !hyp
 #[test]
 fn the_first_bad_step_is_told(rt: HostRuntime) -> Result<(), Fail> {
     assert_eq!(rt;
-        wrong_answer(rt.alloc(), "a 1 <= b 1 <= a 1 <=", BAD_STEPS)?,
+        wrong_answer(rt.alloc(), "a 1 <= b 1 <=", "a 1 <=", BAD_STEPS)?,
         None
     );
     Ok(())
@@ -75,8 +75,8 @@ yes|a 1 <= b 1 <= or h0 !orl b 1 <= a 1 <= b 1 <= and imp [ a 1 <= b 1 <= or h1 
 
 #[test]
 fn what_a_sub_derivation_sees(rt: HostRuntime) -> Result<(), Fail> {
-    let given = "a 1 <= b 1 <= a 1 <= b 1 <= and imp";
-    assert_eq!(rt; wrong_answer(rt.alloc(), given, SEEN)?, None);
+    let goal = "b 1 <= a 1 <= b 1 <= and imp";
+    assert_eq!(rt; wrong_answer(rt.alloc(), "a 1 <=", goal, SEEN)?, None);
     Ok(())
 }
 
