@@ -106,12 +106,7 @@ fn derived_last(
 }
 
 /// What the check answers of the steps, which have to derive the goal from the hypotheses.
-pub(crate) fn checked(
-    alloc: Global,
-    hyps: &str,
-    goal: &str,
-    steps: &str,
-) -> Result<Checked, Fail> {
+pub(crate) fn checked(alloc: Global, hyps: &str, goal: &str, steps: &str) -> Result<Checked, Fail> {
     let (hyps, _none) = read(alloc, hyps)?;
     let (goals, steps) = read_both(alloc, goal, steps)?;
     derived_last(alloc, hyps.as_slice(), goals.as_slice(), &steps)

@@ -7,7 +7,10 @@ use std::test::Fail;
 fn coefficient_bound(rt: HostRuntime) -> Result<(), Fail> {
     let alloc = rt.alloc();
     let past = "0 0 = h0 #79228162514264337593543950336 !linear";
-    assert_eq!(rt; checked(alloc, "0 0 =", "0 0 =", past)?, Checked::BadStep(0));
+    assert_eq!(rt;
+        checked(alloc, "0 0 =", "0 0 =", past)?,
+        Checked::BadStep(0)
+    );
     let last = "0 0 = h0 #79228162514264337593543950335 !linear";
     assert_eq!(rt; checked(alloc, "0 0 =", "0 0 =", last)?, Checked::Yes);
     Ok(())
