@@ -8,6 +8,8 @@ mod check;
 #[cfg(test)]
 mod derivations;
 #[cfg(test)]
+mod levels;
+#[cfg(test)]
 mod machine;
 #[cfg(test)]
 mod names;
