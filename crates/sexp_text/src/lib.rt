@@ -10,8 +10,6 @@ mod reader;
 mod run;
 mod sexp;
 mod step;
-#[cfg(test)]
-mod tests;
 
 pub use fault::{TextFault, TextWord};
 pub use laws::{longest_reading, longest_word, one_value, printed_again, printed_alike};

@@ -33,5 +33,3 @@ pub use same::same_term;
 pub use table::{TermCell, TermId, TermTable};
 pub use term::{Formula, Place, Term};
 
-#[cfg(test)]
-mod tests;

@@ -8,8 +8,6 @@ mod instrs;
 mod leb;
 mod read;
 mod sections;
-#[cfg(test)]
-mod tests;
 mod types;
 
 pub use binary_grammar::{DecodeFault, DecodeWord, Decoded, LebFault};

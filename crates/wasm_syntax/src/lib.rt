@@ -12,8 +12,6 @@ mod module;
 mod next;
 mod read;
 mod table;
-#[cfg(test)]
-mod tests;
 mod walk;
 
 pub use access::{bytes_loaded, bytes_stored, loaded_type, stored_type};

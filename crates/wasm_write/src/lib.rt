@@ -9,8 +9,6 @@ mod instrs;
 pub mod laws;
 mod number;
 mod sections;
-#[cfg(test)]
-mod tests;
 mod types;
 
 pub use encoder::{decoded_again, encode};

@@ -1,7 +1,7 @@
 use Rattle.std.proofs.Common.{◌+◌, length, ap, ◌∙◌}
 use Rattle.wasm_syntax.specs.FlatForm.{flat}
 use Rattle.wasm_syntax.proofs.FlatLemmas.{flat_of-simple, length-flat-push}
-use Rattle.wasm_syntax.proofs.tests.put.Goals as goal
+use Rattle.layer_tests.proofs.code.put.Goals as goal
 
 pub returns : goal.returns
 returns c =

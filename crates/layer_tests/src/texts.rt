@@ -1,4 +1,4 @@
-use super::{TextFault, TextWord, print_sexp, read_sexp};
+use sexp_text::{TextFault, TextWord, print_sexp, read_sexp};
 use std::alloc::{AllocError, Global};
 use std::test::Fail;
 use wasm_values::LimitWord;

@@ -1,7 +1,7 @@
-use super::*;
 use std::alloc::Global;
 use std::test::Fail;
 use wasm_binary::decode;
+use wasm_write::encode;
 
 const HEADER: [u8; 8] = [0, 0x61, 0x73, 0x6d, 1, 0, 0, 0];
 

@@ -4,7 +4,7 @@ use Rattle.wasm_syntax.specs.declared.instr.Instr.TheVariants as instr
 use Rattle.wasm_syntax.specs.declared.flat.Flat.TheVariants.{End}
 use Rattle.wasm_syntax.specs.FlatForm.{flat}
 use Rattle.wasm_syntax.proofs.FlatLemmas.{flat_of-If, length-flat-push}
-use Rattle.wasm_syntax.proofs.tests.put_if.Goals as goal
+use Rattle.layer_tests.proofs.code.put_if.Goals as goal
 
 pub returns : goal.returns
 returns c =

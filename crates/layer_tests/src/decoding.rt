@@ -1,6 +1,7 @@
-use super::*;
+use binary_grammar::{DecodeFault, DecodeWord, LebFault};
 use std::alloc::Global;
 use std::test::Fail;
+use wasm_binary::{decode, read_s32, read_s64, read_u32};
 
 type Fault = (usize, Option<DecodeWord>);
 
