@@ -8,6 +8,4 @@ mod decoding;
 #[cfg(test)]
 mod encoding;
 #[cfg(test)]
-mod terms;
-#[cfg(test)]
 mod texts;

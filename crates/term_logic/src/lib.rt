@@ -32,3 +32,6 @@ pub use normalize::normal;
 pub use same::same_term;
 pub use table::{TermCell, TermId, TermTable};
 pub use term::{Formula, Place, Term};
+
+#[cfg(test)]
+mod tests;
