@@ -1,0 +1,5 @@
+mod Known
+mod Instructions
+mod Steps
+mod Bodies
+pub mod Modules

@@ -1,0 +1,15 @@
+// What there is to say of every module and its marks.
+
+ghost use Rattle.std.specs.Prelude.{◌⊎◌, ℕ, List};
+ghost use Rattle.wasm_syntax.specs.declared.module.Module.{Module};
+ghost use Rattle.wasm_syntax.specs.declared.module.Marks.{Marks};
+ghost use Rattle.wasm_typing.specs.declared.fault.ValidWord.{ValidWord};
+ghost use Rattle.wasm_typing.specs.Valid.{Valid, InRange};
+ghost use Rattle.wasm_typing.specs.Faults.{InvalidAt, Marked};
+
+/// A module whose numbers lie in their ranges, with marks that have one place for each entry and instruction, is valid or
+/// has a first fault, and not both.
+pub fn valid_or_faulty()
+    ensures one { (m : Module) (k : Marks) → Marked m k → InRange m → Valid m ⊎ ((at : ℕ) × (w : ValidWord) × InvalidAt m k at w) }
+    ensures not_both { (m : Module) (k : Marks) (at : ℕ) (w : ValidWord) → Valid m → InvalidAt m k at w → ⊥ }
+{}
