@@ -3,3 +3,5 @@ mod Instructions
 mod Steps
 mod Bodies
 pub mod Modules
+mod Ranges
+pub mod Spelled

@@ -4,12 +4,18 @@ ghost use Rattle.std.specs.Prelude.{◌⊎◌, ℕ, List};
 ghost use Rattle.wasm_syntax.specs.declared.module.Module.{Module};
 ghost use Rattle.wasm_syntax.specs.declared.module.Marks.{Marks};
 ghost use Rattle.wasm_typing.specs.declared.fault.ValidWord.{ValidWord};
-ghost use Rattle.wasm_typing.specs.Valid.{Valid, InRange};
+ghost use Rattle.wasm_typing.specs.Valid.{Valid, InRange, BytesInRange};
 ghost use Rattle.wasm_typing.specs.Faults.{InvalidAt, Marked};
+ghost use Rattle.binary_grammar.specs.ModuleGrammar.{Spells};
 
 /// A module whose numbers lie in their ranges, with marks that have one place for each entry and instruction, is valid or
 /// has a first fault, and not both.
 pub fn valid_or_faulty()
     ensures one { (m : Module) (k : Marks) → Marked m k → InRange m → Valid m ⊎ ((at : ℕ) × (w : ValidWord) × InvalidAt m k at w) }
     ensures not_both { (m : Module) (k : Marks) (at : ℕ) (w : ValidWord) → Valid m → InvalidAt m k at w → ⊥ }
+{}
+
+/// The numbers of a module that bytes spell lie in the ranges of their types.
+pub fn spelled_ranges()
+    ensures { (bytes : List ℕ) (m : Module) (k : Marks) → BytesInRange bytes → Spells bytes m k → InRange m }
 {}

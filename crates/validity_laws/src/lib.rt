@@ -4,4 +4,4 @@
 
 mod laws;
 
-pub use laws::valid_or_faulty;
+pub use laws::{spelled_ranges, valid_or_faulty};
