@@ -5,4 +5,4 @@ pub mod LexemeLaws
 pub mod ManyLaws
 pub mod NoteParts
 pub mod NoteLaws
-mod FirstLaws
+pub mod FirstLaws

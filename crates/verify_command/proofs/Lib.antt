@@ -4,4 +4,4 @@ pub mod ReportLaws
 pub mod OnceLaws
 pub mod AcceptLaws
 pub mod OutcomeLaws
-pub mod ShowLaws
+pub mod ExistLaws

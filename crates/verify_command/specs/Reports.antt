@@ -1,5 +1,5 @@
 -- What a run may report: texts and statuses, by the words and the files.
-use Rattle.std.specs.Prelude.{◌≡◌, ◌<◌, ◌≤◌, ◌⊎◌, ℕ, List, [], ◌∷◌, length, Option, Some, None, if◌then◌else◌, codes}
+use Rattle.std.specs.Prelude.{◌≡◌, ◌<◌, ◌≤◌, ◌⊎◌, ℕ, List, [], ◌∷◌, length, Option, Some, None, if◌then◌else◌, codes, All}
 use Rattle.std.specs.Str.{bytes_eq}
 use Rattle.wasm_syntax.specs.declared.module.Module.{Module}
 use Rattle.wasm_syntax.specs.declared.module.Marks.{Marks}
@@ -9,7 +9,7 @@ use Rattle.binary_grammar.specs.Bounds.{the_bounds}
 use Rattle.binary_grammar.specs.ModuleGrammar.{Spells, InLimits}
 use Rattle.binary_grammar.specs.Plans.{Fault}
 use Rattle.wasm_typing.specs.declared.fault.ValidWord.{ValidWord}
-use Rattle.wasm_typing.specs.Valid.{Valid}
+use Rattle.wasm_typing.specs.Valid.{Valid, BytesInRange}
 use Rattle.wasm_typing.specs.Faults.{InvalidAt}
 use Rattle.rw_edge.specs.Files.{contents_of}
 use Rattle.wasm_values.specs.declared.limit.LimitWord.TheVariants as word
@@ -134,6 +134,10 @@ command_of _ = None
 abbrev pub Files : Type 0
 Files = List (List ℕ × List ℕ)
 
+-- What files hold are bytes.
+abbrev pub HoldBytes : Files → Type 0
+HoldBytes files = All (λ file. BytesInRange file.1) files
+
 -- Whether bytes spell a valid module.
 abbrev pub OfChecked : ReportsOf (List ℕ)
 OfChecked = OfBytes (OfModule (λ m k r. r ≡ module_valid))
@@ -169,6 +173,6 @@ OfCommand files (Some (Check «module»)) r = OfCheck files «module» r
 OfCommand files (Some (Show «module»)) r = OfShow files «module» r
 OfCommand files (Some (Verify «module» notes)) r = OfVerify files «module» notes r
 
--- The report of the words over the files; there is at most one.
+-- The report of the words over the files; there is at most one, and one where the files hold bytes.
 abbrev pub IsReport : List (List ℕ) → Files → Report → Type 0
 IsReport words files r = OfCommand files (command_of words) r

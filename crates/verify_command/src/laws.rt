@@ -6,11 +6,16 @@ ghost use Rattle.wasm_syntax.specs.declared.module.Marks.{Marks};
 ghost use Rattle.binary_grammar.specs.ModuleGrammar.{Spells};
 ghost use Rattle.wasm_typing.specs.declared.fault.ValidWord.{ValidWord};
 ghost use Rattle.wasm_typing.specs.Faults.{InvalidAt, Marked};
-ghost use Rattle.verify_command.specs.Reports.{Report, Files, IsReport};
+ghost use Rattle.verify_command.specs.Reports.{Report, Files, HoldBytes, IsReport};
 
 /// Words have at most one report over the files.
 pub fn one_report()
     ensures { (words : List (List ℕ)) (files : Files) (r s : Report) → IsReport words files r → IsReport words files s → r ≡ s }
+{}
+
+/// Words have a report over any files that hold bytes.
+pub fn every_report_exists()
+    ensures { (words : List (List ℕ)) (files : Files) → HoldBytes files → (r : Report) × IsReport words files r }
 {}
 
 /// `show` has a report over any files.
