@@ -173,7 +173,7 @@ item_text item.End = code_of op.End ∷ []
 abbrev pub items_text : List Flat → List ℕ
 items_text = flat_map item_text
 
--- An expression: its items one after another, with its last end (5.4.9).
+-- An expression: its items one after another, with its last end (5.4.6).
 abbrev pub expression_text : List Instr → List ℕ
 expression_text is = items_text (flat_body is)
 
