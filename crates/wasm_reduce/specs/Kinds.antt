@@ -19,3 +19,11 @@ only_reads (instr.BrTable ks k) = true
 only_reads (instr.Call x) = true
 only_reads (instr.CallIndirect x) = true
 only_reads _ = false
+
+-- The instruction works on locals, or reads a global (Core Specification, section 2.4.3).
+abbrev pub is_variable : Instr → Bool
+is_variable (instr.LocalGet x) = true
+is_variable (instr.LocalSet x) = true
+is_variable (instr.LocalTee x) = true
+is_variable (instr.GlobalGet x) = true
+is_variable _ = false
