@@ -5,3 +5,5 @@ mod Bodies
 pub mod Modules
 mod Ranges
 pub mod Spelled
+pub mod MarkLaws
+pub mod InvalidLaws

@@ -1,6 +1,6 @@
 // What there is to say of every module and its marks.
 
-ghost use Rattle.std.specs.Prelude.{◌⊎◌, ℕ, List};
+ghost use Rattle.std.specs.Prelude.{◌≡◌, ◌⊎◌, ℕ, List};
 ghost use Rattle.wasm_syntax.specs.declared.module.Module.{Module};
 ghost use Rattle.wasm_syntax.specs.declared.module.Marks.{Marks};
 ghost use Rattle.wasm_typing.specs.declared.fault.ValidWord.{ValidWord};
@@ -18,4 +18,14 @@ pub fn valid_or_faulty()
 /// The numbers of a module that bytes spell lie in the ranges of their types.
 pub fn spelled_ranges()
     ensures { (bytes : List ℕ) (m : Module) (k : Marks) → BytesInRange bytes → Spells bytes m k → InRange m }
+{}
+
+/// A module with its marks has at most one first fault.
+pub fn one_first_fault()
+    ensures { (m : Module) (k : Marks) (at other : ℕ) (w v : ValidWord) → InvalidAt m k at w → InvalidAt m k other v → (at ≡ other) × (w ≡ v) }
+{}
+
+/// The marks that bytes spell have one place for each entry and each instruction.
+pub fn spelled_marks()
+    ensures { (bytes : List ℕ) (m : Module) (k : Marks) → Spells bytes m k → Marked m k }
 {}

@@ -26,7 +26,7 @@ use Rattle.rw_edge.specs.Files.{contents_of}
 use Rattle.verify_command.specs.Lines.{limit_line, malformed_line}
 use Rattle.verify_command.specs.declared.status.Status.TheVariants as status
 use Rattle.verify_command.specs.Reports.{Report, ReportsOf, Files, HoldBytes, Command, Check, Show, Verify, command_of, IsFaultReport, OfFile, OfBytes, OfModule, OfFirst, OfChecked, OfShown, OfJudged, OfNotes, OfShow, OfCommand, IsReport, nothing_read, words_refused, module_limit, module_too_long, notes_limit, notes_too_long, module_valid, module_listed, invalid_report, unbuilt_module, noted}
-use Rattle.verify_command.proofs.MarkLaws.{spelled_marked}
+use Rattle.validity_laws.proofs.MarkLaws.{spelled_marked}
 
 -- ---- files
 

@@ -1,5 +1,4 @@
-pub mod MarkLaws
-pub mod InvalidLaws
+pub mod ListingLaws
 pub mod ReportLaws
 pub mod OnceLaws
 pub mod AcceptLaws

@@ -14,7 +14,7 @@ use Rattle.binary_grammar.proofs.ModuleLaws.{module_again}
 use Rattle.binary_grammar.proofs.PlanModule.{stops_module}
 use Rattle.rw_edge.specs.Files.{contents_of}
 use Rattle.verify_command.specs.Reports.{Report, Files, Command, Check, Show, Verify, module_limit, module_too_long, notes_limit, notes_too_long, module_valid, module_listed, invalid_report, IsFaultReport, OfFile, OfBytes, OfModule, OfFirst, OfChecked, OfShown, OfJudged, OfNotes, OfCommand, command_of, IsReport}
-use Rattle.verify_command.proofs.InvalidLaws.{invalid_once, valid_is_not_invalid}
+use Rattle.validity_laws.proofs.InvalidLaws.{invalid_once, valid_is_not_invalid}
 
 -- at most one
 abbrev Once : (Report → Type 0) → Type 0

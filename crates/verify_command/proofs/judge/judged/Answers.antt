@@ -1,6 +1,6 @@
 use Rattle.verify_command.specs.Reports.{OfModule, OfFirst}
 use Rattle.verify_command.proofs.ReportLaws.{spelled_made, faulted_made}
-use Rattle.verify_command.proofs.MarkLaws.{spelled_marked}
+use Rattle.validity_laws.proofs.MarkLaws.{spelled_marked}
 use Rattle.verify_command.proofs.judge.judged.Goals as goal
 
 pub judged_module-requires : goal.judged_module-requires

@@ -1,7 +1,7 @@
 use Rattle.std.proofs.Common.{◌≡◌}
 use Rattle.verify_command.specs.Reports.{OfModule, module_valid}
 use Rattle.verify_command.proofs.ReportLaws.{spelled_made, faulted_made}
-use Rattle.verify_command.proofs.MarkLaws.{spelled_marked}
+use Rattle.validity_laws.proofs.MarkLaws.{spelled_marked}
 use Rattle.verify_command.proofs.stages.checked.Goals as goal
 
 pub checked_module-requires : goal.checked_module-requires

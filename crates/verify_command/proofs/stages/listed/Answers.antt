@@ -1,4 +1,4 @@
-use Rattle.verify_command.proofs.MarkLaws.{marked_places}
+use Rattle.verify_command.proofs.ListingLaws.{marked_places}
 use Rattle.verify_command.proofs.stages.listed.Goals as goal
 
 pub listing-requires : goal.listing-requires

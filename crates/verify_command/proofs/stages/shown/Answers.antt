@@ -1,7 +1,7 @@
 use Rattle.std.proofs.Common.{◌≡◌}
 use Rattle.verify_command.specs.Reports.{module_listed, seen}
 use Rattle.verify_command.proofs.ReportLaws.{spelled, faulted_made}
-use Rattle.verify_command.proofs.MarkLaws.{spelled_marked}
+use Rattle.validity_laws.proofs.MarkLaws.{spelled_marked}
 use Rattle.verify_command.proofs.stages.shown.Goals as goal
 
 pub listed-requires : goal.listed-requires

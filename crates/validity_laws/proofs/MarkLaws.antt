@@ -16,7 +16,6 @@ use Rattle.binary_grammar.specs.ModuleGrammar.{SpellsContents, SpellsSection, In
 use Rattle.binary_grammar.proofs.Drafts.{with_sections}
 use Rattle.binary_grammar.proofs.DraftLaws.{drafted}
 use Rattle.wasm_typing.specs.Faults.{Marked}
-use Rattle.module_listing.specs.Listing.{HasPlaces}
 
 -- a part for each place
 each_length : {A : Type 0} (P : Spelling A) (at : ℕ) (text : List ℕ) (xs : List A) (ps : List ℕ) → Each P at text (xs, ps) → length ps ≡ length xs
@@ -172,6 +171,3 @@ spelled_marked bytes m k spells =
     let h = drafted bytes m k spells in
     let d = with_sections no_sections h.sections in
     subst DecodedMarked h.is (whole_marked (length bytes) d (turn_marked 8 h.rest h.sections no_sections h.turn none_marked) h.counted)
-
-pub marked_places : (m : Module) (k : Marks) → Marked m k → HasPlaces m k
-marked_places m k marked = record { code = marked.code; items = marked.items }
