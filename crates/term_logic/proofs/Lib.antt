@@ -12,6 +12,7 @@ pub mod GroundTruth
 pub mod LinearLists
 pub mod AtomLists
 pub mod LinearForms
+pub mod LinearCells
 pub mod NormalForms
 pub mod Rings
 pub mod Replacing

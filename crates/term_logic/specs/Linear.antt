@@ -1,7 +1,7 @@
 -- Linear forms as lists of parts, each term in one part, and how two of them are taken together.
-use Rattle.std.specs.Prelude.{ℤ, pos, ◌+ℤ◌, ◌-ℤ◌, ◌*ℤ◌, Bool, false, not, ◌||◌, if◌then◌else◌, List, [], ◌∷◌, ◌++◌, map, filter, Option, Some, None, option_map, option_and_then}
+use Rattle.std.specs.Prelude.{ℕ, ◌<◌, ℤ, pos, ◌+ℤ◌, ◌-ℤ◌, ◌*ℤ◌, Bool, false, not, ◌||◌, if◌then◌else◌, List, [], ◌∷◌, ◌++◌, map, filter, Option, Some, None, option_map, option_and_then}
 use Rattle.std.specs.Borrow.{Bor}
-use Rattle.std.specs.List.{list_all}
+use Rattle.std.specs.List.{All, list_all}
 use Rattle.std.specs.Ordering.{int_eq}
 use Rattle.term_logic.specs.declared.term.Term.{Term}
 use Rattle.term_logic.specs.declared.linear.Way.{Way}
@@ -14,12 +14,28 @@ use Rattle.term_logic.specs.Normal.{is_low, fits, form, on_the_way, parts_of}
 abbrev pub Parts : Type 0
 Parts = ℤ × List (Term × ℤ)
 
--- the parts, with the terms that the references point to
-abbrev pub shown : List (Bor Term × ℤ) → List (Term × ℤ)
-shown ps = map (λ p. (p.0.now, p.1)) ps
+-- the parts, each with the term that its atom stands for
+abbrev pub shown : {X : Type 0} → (X → Term) → List (X × ℤ) → List (Term × ℤ)
+shown tree ps = map (λ p. (tree p.0, p.1)) ps
 
-abbrev pub shown_form : Linear → Parts
-shown_form l = (l.constant, shown l.parts.items)
+-- the form with these parts
+abbrev pub shown_form : {X : Type 0} → (X → Term) → Linear X → Parts
+shown_form tree l = (l.constant, shown tree l.parts.items)
+
+-- the parts, with the terms that the references point to
+abbrev pub shown_lent : List (Bor Term × ℤ) → List (Term × ℤ)
+shown_lent ps = shown (λ (t : Bor Term). t.now) ps
+
+abbrev pub shown_tree : Linear (Bor Term) → Parts
+shown_tree l = shown_form (λ (t : Bor Term). t.now) l
+
+-- the atoms of all parts are known
+abbrev pub PartsWithin : {X : Type 0} → (X → Type 0) → List (X × ℤ) → Type 0
+PartsWithin Known ps = All (λ p. Known p.0) ps
+
+-- The terms of a form are positions below n.
+abbrev pub FormWithin : ℕ → Linear ℕ → Type 0
+FormWithin n l = PartsWithin (λ id. id < n) l.parts.items
 
 -- the coefficient of a term among the parts, 0 where it is none of them
 abbrev pub coefficient_in : List (Term × ℤ) → Term → ℤ

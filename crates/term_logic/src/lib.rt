@@ -1,6 +1,7 @@
 //! Terms and formulas over whole numbers, and a table that keeps each term once.
 #![tactic(auto)]
 
+mod atoms;
 mod boxed;
 mod compare;
 mod copy;
@@ -9,6 +10,7 @@ mod evaluate;
 pub mod forms;
 mod formula;
 mod formula_view;
+mod id_forms;
 mod laws;
 mod leaves;
 mod linear;
@@ -28,6 +30,7 @@ pub use evaluate::ground;
 pub use formula::IdFormula;
 pub use laws::{ground_under_any_numbers, normal_form_has_the_value, replacing_keeps_values};
 pub use leaves::LeafIds;
+pub use linear::{Linear, Way};
 pub use normalize::normal;
 pub use same::same_term;
 pub use table::{TermCell, TermId, TermTable};

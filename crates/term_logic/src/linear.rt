@@ -1,17 +1,15 @@
-ghost use Rattle.std.specs.Prelude.{◌≡◌, ◌∷◌, ◌++◌, [], pos, IfOk, option_and_then};
+ghost use Rattle.std.specs.Prelude.{◌≡◌, ◌∷◌, ◌++◌, [], pos, IfOk, IfSome, option_and_then};
 ghost use Rattle.std.specs.Option.{option_map};
 ghost use Rattle.term_logic.specs.Normal.{is_low};
-ghost use Rattle.term_logic.specs.Linear.{shown, shown_form, coefficient_in, occurs_in, applied, limited, limited_parts, kept_parts, fresh_parts, joined, joined_product, is_constant_parts, linear_parts};
-ghost use Rattle.term_logic.specs.Ground.{both};
+ghost use Rattle.term_logic.specs.Linear.{shown, shown_form, PartsWithin, coefficient_in, occurs_in, applied, limited, limited_parts, kept_parts, fresh_parts, joined, joined_product, is_constant_parts};
 
-use crate::same::same_term;
-use crate::term::Term;
+use crate::atoms::Atoms;
 use std::alloc::Global;
 use wasm_values::OutOfMemory;
 
 /// How two linear forms are taken together.
 #[derive(Clone, Copy)]
-pub(crate) enum Way {
+pub enum Way {
     Sum,
     Difference,
     /// The second form times this number.
@@ -22,9 +20,9 @@ pub(crate) enum Way {
 
 /// A linear form, each of its terms in one part.
 #[derive(Drop)]
-pub(crate) struct Linear<'a> {
-    pub(crate) constant: i128,
-    pub(crate) parts: Vec<(&'a Term, i128)>,
+pub struct Linear<X> {
+    pub constant: i128,
+    pub parts: Vec<(X, i128)>,
 }
 
 /// The end of the absolute values of constants and coefficients.
@@ -58,11 +56,13 @@ fn applied(way: Way, x: i128, y: i128) -> Option<i128>
 }
 
 /// The coefficient of a term among some parts: 0 where it is none of them.
-fn coefficient_in(parts: &[(&Term, i128)], t: &Term) -> i128
-    ensures { result ≡ coefficient_in (shown parts.now) t.now }
+pub(crate) fn coefficient_in<X: Copy, A: Atoms<X>>(atoms: &A, parts: &[(X, i128)], t: X) -> i128
+    requires parts { PartsWithin (A.Within atoms.now) parts.now }
+    requires term { A.Within atoms.now t }
+    ensures { result ≡ coefficient_in (shown (A.tree atoms.now) parts.now) (A.tree atoms.now t) }
 {
     for (atom, coefficient) in parts {
-        if same_term(atom, t) {
+        if atoms.same(*atom, t) {
             return *coefficient;
         }
     }
@@ -70,11 +70,13 @@ fn coefficient_in(parts: &[(&Term, i128)], t: &Term) -> i128
 }
 
 /// Whether a term is one of the parts.
-fn occurs_in(parts: &[(&Term, i128)], t: &Term) -> bool
-    ensures { result ≡ occurs_in (shown parts.now) t.now }
+fn occurs_in<X: Copy, A: Atoms<X>>(atoms: &A, parts: &[(X, i128)], t: X) -> bool
+    requires parts { PartsWithin (A.Within atoms.now) parts.now }
+    requires term { A.Within atoms.now t }
+    ensures { result ≡ occurs_in (shown (A.tree atoms.now) parts.now) (A.tree atoms.now t) }
 {
     for (atom, _) in parts {
-        if same_term(atom, t) {
+        if atoms.same(*atom, t) {
             return true;
         }
     }
@@ -82,9 +84,10 @@ fn occurs_in(parts: &[(&Term, i128)], t: &Term) -> bool
 }
 
 /// Whether no part has a coefficient other than 0.
-fn is_constant(parts: &[(&Term, i128)]) -> bool
-    ensures { result ≡ is_constant_parts (shown parts.now) }
+fn is_constant<X: Copy, A: Atoms<X>>(atoms: &A, parts: &[(X, i128)]) -> bool
+    ensures { result ≡ is_constant_parts (shown (A.tree atoms.now) parts.now) }
 {
+    let _ = atoms;
     for (_, coefficient) in parts {
         if *coefficient != 0 {
             return false;
@@ -93,114 +96,130 @@ fn is_constant(parts: &[(&Term, i128)]) -> bool
     true
 }
 
+/// One part more.
+fn push<X: Copy>(parts: &mut Vec<(X, i128)>, atom: X, coefficient: i128) -> Result<(), OutOfMemory>
+    ensures { IfOk result (λ _. parts.new.items ≡ parts.old.items ++ (atom, coefficient) ∷ []) }
+{
+    match parts.push((atom, coefficient)) {
+        Ok(()) => Ok(()),
+        Err(_) => Err(OutOfMemory),
+    }
+}
+
 /// The first parts, each taken together with what the second have of its term.
-fn kept_parts<'a>(
+fn kept_parts<X: Copy, A: Atoms<X>>(
     alloc: Global,
+    atoms: &A,
     way: Way,
-    first: &[(&'a Term, i128)],
-    second: &[(&'a Term, i128)],
-) -> Result<Option<Vec<(&'a Term, i128)>>, OutOfMemory>
-    ensures { IfOk result (λ o. option_map (λ v. shown v.items) o ≡ limited_parts (kept_parts way (shown first.now) (shown second.now))) }
+    first: &[(X, i128)],
+    second: &[(X, i128)],
+) -> Result<Option<Vec<(X, i128)>>, OutOfMemory>
+    requires first { PartsWithin (A.Within atoms.now) first.now }
+    requires second { PartsWithin (A.Within atoms.now) second.now }
+    ensures parts { IfOk result (λ o. option_map (λ v. shown (A.tree atoms.now) v.items) o ≡ limited_parts (kept_parts way (shown (A.tree atoms.now) first.now) (shown (A.tree atoms.now) second.now))) }
+    ensures within { IfOk result (λ o. IfSome o (λ v. PartsWithin (A.Within atoms.now) v.items)) }
 {
     let mut parts = Vec::new(alloc);
     for (atom, coefficient) in first {
-        let Some(sum) = applied(way, *coefficient, coefficient_in(second, atom)) else {
+        let Some(sum) = applied(way, *coefficient, coefficient_in(atoms, second, *atom)) else {
             return Ok(None);
         };
-        let Ok(()) = parts.push((*atom, sum)) else {
-            return Err(OutOfMemory);
-        };
+        push(&mut parts, *atom, sum)?;
     }
     Ok(Some(parts))
 }
 
 /// The second parts whose terms are none of the first.
-fn fresh_parts<'a>(
+fn fresh_parts<X: Copy, A: Atoms<X>>(
     alloc: Global,
+    atoms: &A,
     way: Way,
-    first: &[(&'a Term, i128)],
-    second: &[(&'a Term, i128)],
-) -> Result<Option<Vec<(&'a Term, i128)>>, OutOfMemory>
-    ensures { IfOk result (λ o. option_map (λ v. shown v.items) o ≡ limited_parts (fresh_parts way (shown first.now) (shown second.now))) }
+    first: &[(X, i128)],
+    second: &[(X, i128)],
+) -> Result<Option<Vec<(X, i128)>>, OutOfMemory>
+    requires first { PartsWithin (A.Within atoms.now) first.now }
+    requires second { PartsWithin (A.Within atoms.now) second.now }
+    ensures parts { IfOk result (λ o. option_map (λ v. shown (A.tree atoms.now) v.items) o ≡ limited_parts (fresh_parts way (shown (A.tree atoms.now) first.now) (shown (A.tree atoms.now) second.now))) }
+    ensures within { IfOk result (λ o. IfSome o (λ v. PartsWithin (A.Within atoms.now) v.items)) }
 {
     let mut parts = Vec::new(alloc);
     for (atom, coefficient) in second {
-        if !occurs_in(first, atom) {
-            let Some(sum) = applied(way, 0, *coefficient) else {
-                return Ok(None);
-            };
-            let Ok(()) = parts.push((*atom, sum)) else {
-                return Err(OutOfMemory);
-            };
+        if occurs_in(atoms, first, *atom) {
+            continue;
         }
+        let Some(sum) = applied(way, 0, *coefficient) else {
+            return Ok(None);
+        };
+        push(&mut parts, *atom, sum)?;
     }
     Ok(Some(parts))
 }
 
-/// The form of a term that is an atom.
-fn single<'a>(alloc: Global, t: &'a Term) -> Result<Linear<'a>, OutOfMemory>
-    ensures { IfOk result (λ l. shown_form l ≡ (pos 0, (t.now, pos 1) ∷ [])) }
-{
-    let mut parts = Vec::new(alloc);
-    let Ok(()) = parts.push((t, 1)) else {
-        return Err(OutOfMemory);
-    };
-    Ok(Linear { constant: 0, parts })
-}
-
 /// The form of a term that is an atom, which always fits.
-fn atom<'a>(alloc: Global, t: &'a Term) -> Result<Option<Linear<'a>>, OutOfMemory>
-    ensures { IfOk result (λ o. option_map shown_form o ≡ Some (pos 0, (t.now, pos 1) ∷ [])) }
+pub(crate) fn atom<X: Copy, A: Atoms<X>>(
+    alloc: Global,
+    atoms: &A,
+    t: X,
+) -> Result<Option<Linear<X>>, OutOfMemory>
+    requires { A.Within atoms.now t }
+    ensures form { IfOk result (λ o. option_map (shown_form (A.tree atoms.now)) o ≡ Some (pos 0, (A.tree atoms.now t, pos 1) ∷ [])) }
+    ensures within { IfOk result (λ o. IfSome o (λ l. PartsWithin (A.Within atoms.now) l.parts.items)) }
 {
-    match single(alloc, t) {
-        Ok(form) => Ok(Some(form)),
-        Err(error) => Err(error),
-    }
+    let _ = atoms;
+    let mut parts = Vec::new(alloc);
+    push(&mut parts, t, 1)?;
+    Ok(Some(Linear { constant: 0, parts }))
 }
 
-/// The form of a number.
-fn number<'a>(alloc: Global, n: i128) -> Result<Option<Linear<'a>>, OutOfMemory>
-    ensures { IfOk result (λ o. option_map shown_form o ≡ option_map (λ c. (c, [])) (limited n)) }
+/// The form of a number, where it is low.
+pub(crate) fn number<X: Copy, A: Atoms<X>>(alloc: Global, atoms: &A, n: i128) -> Option<Linear<X>>
+    ensures form { option_map (shown_form (A.tree atoms.now)) result ≡ option_map (λ c. (c, [])) (limited n) }
+    ensures within { IfSome result (λ l. PartsWithin (A.Within atoms.now) l.parts.items) }
 {
+    let _ = atoms;
     if is_low(n) {
-        Ok(Some(Linear {
+        Some(Linear {
             constant: n,
             parts: Vec::new(alloc),
-        }))
+        })
     } else {
-        Ok(None)
+        None
     }
 }
 
 /// The first parts and then the second.
-fn followed<'a>(
-    mut first: Vec<(&'a Term, i128)>,
-    second: &[(&'a Term, i128)],
-) -> Result<Vec<(&'a Term, i128)>, OutOfMemory>
-    ensures { IfOk result (λ v. shown v.items ≡ shown first.entry.items ++ shown second.now) }
+fn followed<X: Copy>(
+    mut first: Vec<(X, i128)>,
+    second: &[(X, i128)],
+) -> Result<Vec<(X, i128)>, OutOfMemory>
+    ensures { IfOk result (λ v. v.items ≡ first.items ++ second.now) }
 {
-    let Ok(()) = first.extend_from_slice(second) else {
-        return Err(OutOfMemory);
-    };
-    Ok(first)
+    match first.extend_from_slice(second) {
+        Ok(()) => Ok(first),
+        Err(_) => Err(OutOfMemory),
+    }
 }
 
 /// Two forms taken together, where the constant and all coefficients are low.
-fn joined<'a>(
+pub(crate) fn joined<X: Copy, A: Atoms<X>>(
     alloc: Global,
+    atoms: &A,
     way: Way,
-    first: &Linear<'a>,
-    second: &Linear<'a>,
-) -> Result<Option<Linear<'a>>, OutOfMemory>
-    ensures { IfOk result (λ o. option_map shown_form o ≡ joined way (shown_form first.now) (shown_form second.now)) }
+    first: &Linear<X>,
+    second: &Linear<X>,
+) -> Result<Option<Linear<X>>, OutOfMemory>
+    requires first { PartsWithin (A.Within atoms.now) first.now.parts.items }
+    requires second { PartsWithin (A.Within atoms.now) second.now.parts.items }
+    ensures form { IfOk result (λ o. option_map (shown_form (A.tree atoms.now)) o ≡ joined way (shown_form (A.tree atoms.now) first.now) (shown_form (A.tree atoms.now) second.now)) }
+    ensures within { IfOk result (λ o. IfSome o (λ l. PartsWithin (A.Within atoms.now) l.parts.items)) }
 {
     let Some(constant) = applied(way, first.constant, second.constant) else {
         return Ok(None);
     };
-    let Some(parts) = kept_parts(alloc, way, &first.parts, &second.parts)? else {
+    let Some(parts) = kept_parts(alloc, atoms, way, &first.parts, &second.parts)? else {
         return Ok(None);
     };
-    let Some(fresh) = fresh_parts(alloc, way, &first.parts, &second.parts)? else {
+    let Some(fresh) = fresh_parts(alloc, atoms, way, &first.parts, &second.parts)? else {
         return Ok(None);
     };
     let parts = followed(parts, &fresh)?;
@@ -208,62 +227,24 @@ fn joined<'a>(
 }
 
 /// The form of the product `t` of two terms with these forms.
-fn product<'a>(
+pub(crate) fn product<X: Copy, A: Atoms<X>>(
     alloc: Global,
-    t: &'a Term,
-    first: &Linear<'a>,
-    second: &Linear<'a>,
-) -> Result<Option<Linear<'a>>, OutOfMemory>
-    ensures { IfOk result (λ o. option_map shown_form o ≡ joined_product t.now (shown_form first.now) (shown_form second.now)) }
+    atoms: &A,
+    t: X,
+    first: &Linear<X>,
+    second: &Linear<X>,
+) -> Result<Option<Linear<X>>, OutOfMemory>
+    requires term { A.Within atoms.now t }
+    requires first { PartsWithin (A.Within atoms.now) first.now.parts.items }
+    requires second { PartsWithin (A.Within atoms.now) second.now.parts.items }
+    ensures form { IfOk result (λ o. option_map (shown_form (A.tree atoms.now)) o ≡ joined_product (A.tree atoms.now t) (shown_form (A.tree atoms.now) first.now) (shown_form (A.tree atoms.now) second.now)) }
+    ensures within { IfOk result (λ o. IfSome o (λ l. PartsWithin (A.Within atoms.now) l.parts.items)) }
 {
-    if is_constant(&first.parts) {
-        joined(alloc, Way::Times(first.constant), first, second)
-    } else if is_constant(&second.parts) {
-        joined(alloc, Way::By(second.constant), first, second)
+    if is_constant(atoms, &first.parts) {
+        joined(alloc, atoms, Way::Times(first.constant), first, second)
+    } else if is_constant(atoms, &second.parts) {
+        joined(alloc, atoms, Way::By(second.constant), first, second)
     } else {
-        atom(alloc, t)
-    }
-}
-
-#[cycle(forms)]
-fn two_forms<'a>(
-    alloc: Global,
-    a: &'a Term,
-    b: &'a Term,
-) -> Result<Option<(Linear<'a>, Linear<'a>)>, OutOfMemory>
-    ensures { IfOk result (λ o. option_map (λ p. (shown_form p.0, shown_form p.1)) o ≡ both (linear_parts a.now) (linear_parts b.now)) }
-{
-    let Some(first) = form_of(alloc, a)? else {
-        return Ok(None);
-    };
-    let Some(second) = form_of(alloc, b)? else {
-        return Ok(None);
-    };
-    Ok(Some((first, second)))
-}
-
-/// The linear form of a term, where the forms of all terms on the way fit.
-#[cycle(forms)]
-#[tactic(auto, using(crate::proofs::LinearForms::linear_forms))]
-pub(crate) fn form_of<'a>(alloc: Global, t: &'a Term) -> Result<Option<Linear<'a>>, OutOfMemory>
-    ensures { IfOk result (λ o. option_map shown_form o ≡ linear_parts t.now) }
-{
-    match t {
-        Term::Num(n) => number(alloc, *n),
-        Term::Add(a, b) => match two_forms(alloc, a.get(), b.get())? {
-            Some((first, second)) => joined(alloc, Way::Sum, &first, &second),
-            None => Ok(None),
-        },
-        Term::Sub(a, b) => match two_forms(alloc, a.get(), b.get())? {
-            Some((first, second)) => joined(alloc, Way::Difference, &first, &second),
-            None => Ok(None),
-        },
-        Term::Mul(a, b) => match two_forms(alloc, a.get(), b.get())? {
-            Some((first, second)) => product(alloc, t, &first, &second),
-            None => Ok(None),
-        },
-        Term::Var(_) | Term::Own(_) | Term::At(_) => atom(alloc, t),
-        Term::One(_, _) | Term::Two(_, _, _) => atom(alloc, t),
-        Term::Low(_, _) | Term::Sext(_, _, _) | Term::Sgn(_, _) => atom(alloc, t),
+        atom(alloc, atoms, t)
     }
 }

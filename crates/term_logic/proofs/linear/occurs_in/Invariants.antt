@@ -3,4 +3,6 @@ use Rattle.term_logic.specs.Linear.{shown, occurs_in}
 use Rattle.term_logic.proofs.linear.occurs_in.Given as goal
 
 abbrev pub invariant-loop-atom : goal.invariant-loop-atom
-invariant-loop-atom l = occurs_in (shown (drop l.atom-index l.parts)) l.t ≡ occurs_in (shown l.parts) l.t
+invariant-loop-atom g l =
+    let tree = g.A.Atoms.tree l.atoms in
+    occurs_in (shown tree (drop l.atom-index l.parts)) (tree l.t) ≡ occurs_in (shown tree l.parts) (tree l.t)

@@ -2,7 +2,7 @@ use Rattle.std.proofs.Common.{rules, ◌≡◌, Some, sym}
 use Rattle.std.proofs.lemmas.Int.{to_z-of_z}
 use mir.Syntax.{w128}
 use Rattle.term_logic.specs.Normal.{nonzero}
-use Rattle.term_logic.specs.Linear.{shown, shown_form, linear_parts}
+use Rattle.term_logic.specs.Linear.{shown_lent, shown_tree, linear_parts}
 use Rattle.term_logic.proofs.NormalForms.{normal-none, normal-some}
 use Rattle.term_logic.proofs.NormalSound.{normal-sound}
 use Rattle.term_logic.proofs.normalize.normal.Goals as goal
@@ -12,8 +12,8 @@ returns-in_default-clause-form c = normal-none c.args.t.now (search rules)
 
 pub returns-clause-form : goal.returns-clause-form
 returns-clause-form c =
-    let found : Some (shown_form c.in-Some.form) ≡ linear_parts c.args.t.now = search rules in
-    let kept : c.in_ok-parts.parts ≡ nonzero (shown c.in-Some.form.parts.items) = search rules in
+    let found : Some (shown_tree c.in-Some.form) ≡ linear_parts c.args.t.now = search rules in
+    let kept : c.in_ok-parts.parts ≡ nonzero (shown_lent c.in-Some.form.parts.items) = search rules in
     rw (to_z-of_z w128 c.in-Some.form.constant (search rules)) (normal-some c.args.t.now c.in-Some.form.constant _ _ found kept)
 
 pub returns-clause-well_formed : goal.returns-clause-well_formed
