@@ -2,15 +2,15 @@
 use Rattle.std.proofs.Common.{◌≡◌, ℕ, ℤ, pos, List, [], ◌∷◌, Some, sym, ap, subst, ◌∙◌}
 use Rattle.std.specs.Prelude.{option_map, option_and_then}
 use Rattle.wasm_values.specs.declared.number.NumOp.{NumOp}
-use Rattle.term_logic.specs.declared.term.Place.{Place}
-use Rattle.term_logic.specs.declared.term.Term.{Term}
-use Rattle.term_logic.specs.declared.term.Term.TheVariants as term
+use Rattle.term_trees.specs.declared.term.Place.{Place}
+use Rattle.term_trees.specs.declared.term.Term.{Term}
+use Rattle.term_trees.specs.declared.term.Term.TheVariants as term
 use Rattle.term_logic.specs.declared.table.TermCell.TheVariants.{Num, Var, Own, At, Add, Sub, Mul, One, Two, Low, Sext, Sgn}
-use Rattle.term_logic.specs.declared.linear.Way.TheVariants.{Sum, Difference}
-use Rattle.term_logic.specs.Ground.{both}
+use Rattle.term_trees.specs.declared.linear.Way.TheVariants.{Sum, Difference}
+use Rattle.term_trees.specs.Ground.{both}
 use Rattle.term_logic.specs.Table.{tree_at, tree_here}
-use Rattle.term_logic.specs.Linear.{limited, joined, joined_product, linear_parts}
-use Rattle.term_logic.proofs.LinearForms.{linear-num, linear-add, linear-sub, linear-mul, linear-var, linear-own, linear-at, linear-one, linear-two, linear-low, linear-sext, linear-sgn}
+use Rattle.term_trees.specs.Linear.{limited, joined, joined_product, linear_parts}
+use Rattle.term_trees.proofs.LinearForms.{linear-num, linear-add, linear-sub, linear-mul, linear-var, linear-own, linear-at, linear-one, linear-two, linear-low, linear-sext, linear-sgn}
 use Rattle.term_logic.proofs.Trees.{tree_here_num, tree_here_var, tree_here_own, tree_here_at, tree_here_add, tree_here_sub, tree_here_mul, tree_here_one, tree_here_two, tree_here_low, tree_here_sext, tree_here_sgn}
 
 module _ (ts : List Term) where

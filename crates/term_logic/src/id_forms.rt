@@ -1,13 +1,26 @@
 ghost use Rattle.std.specs.Prelude.{◌≡◌, ◌<◌, [], length, IfOk, IfSome};
 ghost use Rattle.std.specs.Option.{option_map};
 ghost use Rattle.term_logic.specs.Table.{tree_at};
-ghost use Rattle.term_logic.specs.Ground.{both};
-ghost use Rattle.term_logic.specs.Linear.{shown, shown_form, FormWithin, coefficient_in, limited, joined, linear_parts};
+ghost use Rattle.term_trees.specs.Ground.{both};
+ghost use Rattle.term_trees.specs.Linear.{shown, shown_form, coefficient_in, limited, joined, linear_parts};
+ghost use Rattle.term_logic.specs.Linear.{FormWithin};
 
-use crate::linear::{Linear, Way, atom, coefficient_in, joined, number, product};
 use crate::table::{TermCell, TermId, TermTable};
 use std::alloc::Global;
+use term_trees::linear::{atom, coefficient_in, joined, number, product};
+use term_trees::{Atoms, Linear, Way};
 use wasm_values::OutOfMemory;
+
+/// A position of a table stands for its tree.
+impl Atoms<TermId> for TermTable {
+    ghost tree = { tree_at };
+
+    ghost Within = { λ ts id. id < length ts };
+
+    fn same(&self, a: TermId, b: TermId) -> bool {
+        self.same_tree(a, b)
+    }
+}
 
 /// Linear forms whose terms are positions of the table.
 impl TermTable {
