@@ -32,7 +32,6 @@ pub use laws::{ground_under_any_numbers, normal_form_has_the_value, replacing_ke
 pub use leaves::LeafIds;
 pub use linear::{Linear, Way};
 pub use normalize::normal;
-pub use same::same_term;
 pub use table::{TermCell, TermId, TermTable};
 pub use term::{Formula, Place, Term};
 
