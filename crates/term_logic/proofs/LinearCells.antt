@@ -4,7 +4,6 @@ use Rattle.std.specs.Prelude.{option_map, option_and_then}
 use Rattle.wasm_values.specs.declared.number.NumOp.{NumOp}
 use Rattle.term_trees.specs.declared.term.Place.{Place}
 use Rattle.term_trees.specs.declared.term.Term.{Term}
-use Rattle.term_trees.specs.declared.term.Term.TheVariants as term
 use Rattle.term_logic.specs.declared.table.TermCell.TheVariants.{Num, Var, Own, At, Add, Sub, Mul, One, Two, Low, Sext, Sgn}
 use Rattle.term_trees.specs.declared.linear.Way.TheVariants.{Sum, Difference}
 use Rattle.term_trees.specs.Ground.{both}

@@ -1,7 +1,6 @@
 -- Lists of parts that are checked one after another.
-use Rattle.std.proofs.Common.{◌≡◌, ℕ, zero, suc, ℤ, pos, ◌+◌, ◌<◌, Bool, true, false, not, List, [], ◌∷◌, ◌++◌, map, drop, length, get_or, Option, Some, None, refl, sym, ap, subst, ◌∙◌, append_assoc, add-one, drop-cons}
+use Rattle.std.proofs.Common.{◌≡◌, ℕ, suc, ℤ, pos, ◌+◌, ◌<◌, Bool, true, false, not, List, [], ◌∷◌, ◌++◌, map, drop, length, get_or, Option, Some, None, refl, sym, ap, subst, ◌∙◌, append_assoc, add-one, drop-cons}
 use Rattle.std.specs.Prelude.{filter, option_map, option_and_then, if◌then◌else◌}
-use Rattle.std.specs.List.{All}
 use Rattle.std.proofs.lemmas.List.{map-append}
 use Rattle.std.proofs.lemmas.List.Elements.{All-append, All-nil, All-cons}
 use Rattle.std.proofs.lemmas.Iterator.Adapters.{option_map_id}
@@ -51,15 +50,10 @@ gathered_high ps qs t z e = at (is_low z) (limited_parts qs) e
     at true o e = cc
     at false o e = refl
 
-fresh_at : (w : Way) (ps : List (Term × ℤ)) (t : Term) (z : ℤ) (qs : List (Term × ℤ)) (b : Bool) → occurs_in ps t ≡ b
-    → fresh_parts w ps ((t, z) ∷ qs) ≡ (if not b then (t, applied w (pos 0) z) ∷ fresh_parts w ps qs else fresh_parts w ps qs)
-fresh_at w ps t z qs b e =
-    ap (λ b. map (λ q. (q.0, applied w (pos 0) q.1)) (if not b then (t, z) ∷ filter (λ q. not (occurs_in ps q.0)) qs else filter (λ q. not (occurs_in ps q.0)) qs)) e ∙ at b
-  where
-    at : (b : Bool) → map (λ q. (q.0, applied w (pos 0) q.1)) (if not b then (t, z) ∷ filter (λ q. not (occurs_in ps q.0)) qs else filter (λ q. not (occurs_in ps q.0)) qs)
-        ≡ (if not b then (t, applied w (pos 0) z) ∷ fresh_parts w ps qs else fresh_parts w ps qs)
-    at true = refl
-    at false = refl
+fresh_at : (w : Way) (ps : List (Term × ℤ)) (t : Term) (z : ℤ) (qs : List (Term × ℤ)) → occurs_in ps t ≡ false
+    → fresh_parts w ps ((t, z) ∷ qs) ≡ (t, applied w (pos 0) z) ∷ fresh_parts w ps qs
+fresh_at w ps t z qs e =
+    ap (λ b. map (λ q. (q.0, applied w (pos 0) q.1)) (if not b then (t, z) ∷ filter (λ q. not (occurs_in ps q.0)) qs else filter (λ q. not (occurs_in ps q.0)) qs)) e
 
 -- a part of known ones is known
 pub within_step : {X : Type 0} (Known : X → Type 0) (parts all : List (X × ℤ)) (i : ℕ) (p : X × ℤ) (c : ℤ) → i < length all → p ≡ get_or all i p
@@ -82,60 +76,44 @@ module _ {X : Type 0} (tree : X → Term) (w : Way) where
   dropped xs i p h is = rw (add-one, drop-cons xs i p) (ap (λ q. q ∷ drop (suc i) xs) (sym is))
 
   -- one of the first parts more
-  pub kept_step : (parts first second : List (X × ℤ)) (i : ℕ) (p : X × ℤ) (c : ℤ) → i < length first → p ≡ get_or first i p
-      → Some c ≡ limited (applied w p.1 (coefficient_in (shown tree second) (tree p.0)))
-      → gathered (shown tree (parts ++ ((p.0, c) ∷ []))) (kept_parts w (shown tree (drop (i + 1) first)) (shown tree second))
-      ≡ gathered (shown tree parts) (kept_parts w (shown tree (drop i first)) (shown tree second))
-  kept_step parts first second i p c h is low =
+  pub kept_step : (parts more first second : List (X × ℤ)) (i : ℕ) (p : X × ℤ) (c : ℤ) (whole : Option (List (Term × ℤ))) → i < length first → p ≡ get_or first i p
+      → Some c ≡ limited (applied w p.1 (coefficient_in (shown tree second) (tree p.0))) → more ≡ parts ++ ((p.0, c) ∷ [])
+      → gathered (shown tree parts) (kept_parts w (shown tree (drop i first)) (shown tree second)) ≡ whole
+      → gathered (shown tree more) (kept_parts w (shown tree (drop (i + 1) first)) (shown tree second)) ≡ whole
+  kept_step parts more first second i p c whole h is low pushed before =
       let rest = kept_parts w (shown tree (drop (i + 1) first)) (shown tree second) in
-      ap (λ ps. gathered ps rest) (shown-push parts p.0 c)
+      ap (λ ps. gathered (shown tree ps) rest) pushed
+      ∙ ap (λ ps. gathered ps rest) (shown-push parts p.0 c)
       ∙ gathered_low (shown tree parts) rest (tree p.0) (applied w p.1 (coefficient_in (shown tree second) (tree p.0))) c low
       ∙ ap (λ xs. gathered (shown tree parts) (kept_parts w (shown tree xs) (shown tree second))) (sym (dropped first i p h is))
+      ∙ before
 
-  pub kept_stop : (ps : List (Term × ℤ)) (first second : List (X × ℤ)) (i : ℕ) (p : X × ℤ) → i < length first → p ≡ get_or first i p
+  -- one of the first parts isn't low
+  pub kept_stop : (parts first second : List (X × ℤ)) (i : ℕ) (p : X × ℤ) (whole : Option (List (Term × ℤ))) → i < length first → p ≡ get_or first i p
       → None ≡ limited (applied w p.1 (coefficient_in (shown tree second) (tree p.0)))
-      → None ≡ gathered ps (kept_parts w (shown tree (drop i first)) (shown tree second))
-  kept_stop ps first second i p h is high =
+      → gathered (shown tree parts) (kept_parts w (shown tree (drop i first)) (shown tree second)) ≡ whole → None ≡ whole
+  kept_stop parts first second i p whole h is high before =
       let rest = kept_parts w (shown tree (drop (i + 1) first)) (shown tree second) in
-      gathered_high ps rest (tree p.0) (applied w p.1 (coefficient_in (shown tree second) (tree p.0))) high
-      ∙ ap (λ xs. gathered ps (kept_parts w (shown tree xs) (shown tree second))) (sym (dropped first i p h is))
+      gathered_high (shown tree parts) rest (tree p.0) (applied w p.1 (coefficient_in (shown tree second) (tree p.0))) high
+      ∙ ap (λ xs. gathered (shown tree parts) (kept_parts w (shown tree xs) (shown tree second))) (sym (dropped first i p h is))
+      ∙ before
 
   -- one of the second parts more, whose term is none of the first
-  pub fresh_step : (parts first second : List (X × ℤ)) (i : ℕ) (p : X × ℤ) (c : ℤ) → i < length second → p ≡ get_or second i p
-      → occurs_in (shown tree first) (tree p.0) ≡ false → Some c ≡ limited (applied w (pos 0) p.1)
-      → gathered (shown tree (parts ++ ((p.0, c) ∷ []))) (fresh_parts w (shown tree first) (shown tree (drop (i + 1) second)))
-      ≡ gathered (shown tree parts) (fresh_parts w (shown tree first) (shown tree (drop i second)))
-  fresh_step parts first second i p c h is out low =
+  pub fresh_step : (parts more first second : List (X × ℤ)) (i : ℕ) (p : X × ℤ) (c : ℤ) (whole : Option (List (Term × ℤ))) → i < length second → p ≡ get_or second i p
+      → occurs_in (shown tree first) (tree p.0) ≡ false → Some c ≡ limited (applied w (pos 0) p.1) → more ≡ parts ++ ((p.0, c) ∷ [])
+      → gathered (shown tree parts) (fresh_parts w (shown tree first) (shown tree (drop i second))) ≡ whole
+      → gathered (shown tree more) (fresh_parts w (shown tree first) (shown tree (drop (i + 1) second))) ≡ whole
+  fresh_step parts more first second i p c whole h is out low pushed before =
       let rest = shown tree (drop (i + 1) second) in
-      ap (λ ps. gathered ps (fresh_parts w (shown tree first) rest)) (shown-push parts p.0 c)
+      ap (λ ps. gathered (shown tree ps) (fresh_parts w (shown tree first) rest)) pushed
+      ∙ ap (λ ps. gathered ps (fresh_parts w (shown tree first) rest)) (shown-push parts p.0 c)
       ∙ gathered_low (shown tree parts) (fresh_parts w (shown tree first) rest) (tree p.0) (applied w (pos 0) p.1) c low
-      ∙ sym (ap (gathered (shown tree parts)) (fresh_at w (shown tree first) (tree p.0) p.1 rest false out))
+      ∙ sym (ap (gathered (shown tree parts)) (fresh_at w (shown tree first) (tree p.0) p.1 rest out))
       ∙ ap (λ xs. gathered (shown tree parts) (fresh_parts w (shown tree first) (shown tree xs))) (sym (dropped second i p h is))
-
-  pub fresh_stop : (ps : List (Term × ℤ)) (first second : List (X × ℤ)) (i : ℕ) (p : X × ℤ) → i < length second → p ≡ get_or second i p
-      → occurs_in (shown tree first) (tree p.0) ≡ false → None ≡ limited (applied w (pos 0) p.1)
-      → None ≡ gathered ps (fresh_parts w (shown tree first) (shown tree (drop i second)))
-  fresh_stop ps first second i p h is out high =
-      let rest = shown tree (drop (i + 1) second) in
-      gathered_high ps (fresh_parts w (shown tree first) rest) (tree p.0) (applied w (pos 0) p.1) high
-      ∙ sym (ap (gathered ps) (fresh_at w (shown tree first) (tree p.0) p.1 rest false out))
-      ∙ ap (λ xs. gathered ps (fresh_parts w (shown tree first) (shown tree xs))) (sym (dropped second i p h is))
-
-  -- one of the second parts that is passed over
-  pub known_step : (parts first second : List (X × ℤ)) (i : ℕ) (p : X × ℤ) → i < length second → p ≡ get_or second i p
-      → occurs_in (shown tree first) (tree p.0) ≡ true
-      → gathered (shown tree parts) (fresh_parts w (shown tree first) (shown tree (drop (i + 1) second)))
-      ≡ gathered (shown tree parts) (fresh_parts w (shown tree first) (shown tree (drop i second)))
-  known_step parts first second i p h is out =
-      sym (ap (gathered (shown tree parts)) (fresh_at w (shown tree first) (tree p.0) p.1 (shown tree (drop (i + 1) second)) true out))
-      ∙ ap (λ xs. gathered (shown tree parts) (fresh_parts w (shown tree first) (shown tree xs))) (sym (dropped second i p h is))
+      ∙ before
 
 -- what the code shows of two forms that are taken together
 module _ (w : Way) (f g : Parts) where
-  pub joined-none : (c : ℤ) (ps : List (Term × ℤ)) → Some c ≡ limited (applied w f.0 g.0) → Some ps ≡ limited_parts (kept_parts w f.1 g.1)
-      → None ≡ limited_parts (fresh_parts w f.1 g.1) → None ≡ joined w f g
-  joined-none c ps at kept fresh = λ j. option_and_then (λ c. option_and_then (λ ps. option_map (λ qs. (c, ps ++ qs)) (fresh j)) (kept j)) (at j)
-
   pub joined-some : (c : ℤ) (ps qs rs : List (Term × ℤ)) → Some c ≡ limited (applied w f.0 g.0) → Some ps ≡ limited_parts (kept_parts w f.1 g.1)
       → Some qs ≡ limited_parts (fresh_parts w f.1 g.1) → rs ≡ ps ++ qs → Some (c, rs) ≡ joined w f g
   joined-some c ps qs rs at kept fresh is =

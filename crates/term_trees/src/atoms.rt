@@ -7,10 +7,13 @@ use crate::term::Term;
 
 /// What knows the terms that values of `X` stand for, and tells whether two of them are the same.
 pub trait Atoms<X: Copy> {
+    // The term that a value stands for.
     ghost tree: { Self → X → Term };
 
+    // That the value stands for one.
     ghost Within: { Self → X → Type 0 };
 
+    /// Whether two values stand for the same term.
     fn same(&self, a: X, b: X) -> bool
         requires first { Within self.now a }
         requires second { Within self.now b }

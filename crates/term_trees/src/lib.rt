@@ -22,7 +22,6 @@ pub use evaluate::ground;
 pub use laws::{ground_under_any_numbers, normal_form_has_the_value, replacing_keeps_values};
 pub use linear::{Linear, Way};
 pub use normalize::normal;
-pub use same::same_term;
 pub use term::{Formula, Place, Term};
 
 #[cfg(test)]

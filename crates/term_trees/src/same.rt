@@ -4,7 +4,7 @@ ghost use Rattle.term_trees.specs.Same.{same};
 use crate::term::Term;
 
 /// Whether two terms are the same tree.
-pub fn same_term(t: &Term, u: &Term) -> bool
+pub(crate) fn same_term(t: &Term, u: &Term) -> bool
     ensures { result ≡ same t.now u.now }
 {
     match t {
