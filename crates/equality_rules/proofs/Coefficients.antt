@@ -5,14 +5,14 @@ use Rattle.std.specs.List.{list_all}
 use Rattle.std.specs.Ordering.{int_eq}
 use Rattle.std.proofs.lemmas.Option.{same_Some}
 use Rattle.std.proofs.lemmas.Bool.Decides.{Decides-int_eq}
-use Rattle.term_logic.specs.declared.term.Term.{Term}
-use Rattle.term_logic.specs.Same.{same}
-use Rattle.term_logic.specs.Normal.{Form, form, on_the_way, fits, distinct, parts_of}
-use Rattle.term_logic.specs.Linear.{Parts, coefficient_in, occurs_in, linear_parts}
-use Rattle.term_logic.proofs.AtomLists.{among, among-distinct, with_coefficients, occurs_in-with}
-use Rattle.term_logic.proofs.LinearForms.{Covers, form-covers}
-use Rattle.term_logic.proofs.Sameness.{same-exact}
-use Rattle.term_logic.proofs.Truths.{both, and_true}
+use Rattle.term_trees.specs.declared.term.Term.{Term}
+use Rattle.term_trees.specs.Same.{same}
+use Rattle.term_trees.specs.Normal.{Form, form, on_the_way, fits, distinct, parts_of}
+use Rattle.term_trees.specs.Linear.{Parts, coefficient_in, occurs_in, linear_parts}
+use Rattle.term_trees.proofs.AtomLists.{among, among-distinct, with_coefficients, occurs_in-with}
+use Rattle.term_trees.proofs.LinearForms.{Covers, form-covers}
+use Rattle.term_trees.proofs.Sameness.{same-exact}
+use Rattle.term_trees.proofs.Truths.{both, and_true}
 use Rattle.equality_rules.specs.Sums.{agrees}
 
 -- ---- tests

@@ -3,10 +3,10 @@ use Rattle.std.specs.Prelude.{ℤ, Bool, ◌&&◌, int_le, if◌then◌else◌, 
 use Rattle.std.specs.Option.{option_map, option_and_then}
 use Rattle.std.specs.List.{list_all}
 use Rattle.std.specs.Ordering.{int_eq}
-use Rattle.term_logic.specs.declared.term.Term.{Term}
-use Rattle.term_logic.specs.declared.term.Formula.{Formula}
-use Rattle.term_logic.specs.declared.linear.Way.TheVariants.{Sum, Times}
-use Rattle.term_logic.specs.Linear.{Parts, coefficient_in, limited, joined, linear_parts}
+use Rattle.term_trees.specs.declared.term.Term.{Term}
+use Rattle.term_trees.specs.declared.term.Formula.{Formula}
+use Rattle.term_trees.specs.declared.linear.Way.TheVariants.{Sum, Times}
+use Rattle.term_trees.specs.Linear.{Parts, coefficient_in, limited, joined, linear_parts}
 use Rattle.equality_rules.specs.Linear.{claimed_term, concluded_term, weighed_term}
 
 -- the form of a claimed term

@@ -3,7 +3,8 @@ ghost use Rattle.std.specs.List.{All, list_all};
 ghost use Rattle.std.specs.Option.{option_map};
 ghost use Rattle.term_logic.specs.Table.{tree_at};
 ghost use Rattle.term_logic.specs.Formulas.{formula_bound, formula_of};
-ghost use Rattle.term_logic.specs.Linear.{shown_form, FormWithin, linear_parts};
+ghost use Rattle.term_trees.specs.Linear.{shown_form, linear_parts};
+ghost use Rattle.term_logic.specs.Linear.{FormWithin};
 ghost use Rattle.equality_rules.specs.Linear.{difference, strict_difference, is_equation, is_linear};
 ghost use Rattle.equality_rules.specs.Sums.{claimed_form, concluded_form, weighed_form, added, total_after};
 

@@ -2,7 +2,8 @@ ghost use Rattle.std.specs.Prelude.{◌≡◌, ◌&&◌, length, int_le, if◌th
 ghost use Rattle.std.specs.Option.{option_map};
 ghost use Rattle.std.specs.Ordering.{int_eq};
 ghost use Rattle.term_logic.specs.Table.{tree_at};
-ghost use Rattle.term_logic.specs.Linear.{shown, shown_form, FormWithin};
+ghost use Rattle.term_trees.specs.Linear.{shown, shown_form};
+ghost use Rattle.term_logic.specs.Linear.{FormWithin};
 ghost use Rattle.equality_rules.specs.Sums.{scaled, agrees, remains};
 
 use std::alloc::Global;

@@ -2,7 +2,7 @@ use Rattle.std.proofs.Common.{rules, ◌≡◌, [], pos, Bool, true, false, not,
 use Rattle.std.specs.List.{list_all}
 use Rattle.term_logic.specs.Table.{tree_at}
 use Rattle.term_logic.specs.Formulas.{formula_of}
-use Rattle.term_logic.specs.Linear.{shown_form}
+use Rattle.term_trees.specs.Linear.{shown_form}
 use Rattle.equality_rules.specs.Linear.{is_equation}
 use Rattle.equality_rules.specs.Sums.{concluded_form, total_after, remains}
 use Rattle.equality_rules.proofs.LinearTerms.{linear-unformed, linear-high, linear-settled}

@@ -1,7 +1,8 @@
 use Rattle.std.proofs.Common.{◌≡◌, pos, [], length, map, drop}
 use Rattle.term_logic.specs.Table.{tree_at}
 use Rattle.term_logic.specs.Formulas.{formula_of}
-use Rattle.term_logic.specs.Linear.{shown_form, FormWithin}
+use Rattle.term_trees.specs.Linear.{shown_form}
+use Rattle.term_logic.specs.Linear.{FormWithin}
 use Rattle.equality_rules.specs.Sums.{total_after}
 use Rattle.equality_rules.proofs.linear.total.Given as goal
 
