@@ -1,13 +1,13 @@
 -- What the truth of a formula says of its parts.
 use Rattle.std.proofs.Common.{◌≡◌, Bool, true, false, not, ◌&&◌, ◌||◌, IsTrue, Option, Some, None, refl, sym, ap, subst, ◌∙◌, true≢false}
 use Rattle.std.proofs.lemmas.Option.{same_Some}
-use Rattle.term_logic.specs.declared.term.Formula.{Formula, out-Formula, map-Formula, fold_out-Formula}
-use Rattle.term_logic.specs.declared.term.Formula.TheOpen.{Formula-F, True, False, Not, And, Or, Imp}
-use Rattle.term_logic.specs.declared.term.Formula.TheVariants as formula
-use Rattle.term_logic.specs.Views.{true_here, false_here, not_here, and_here, or_here, imp_here, is_true, is_false, not_of, and_of, or_of, imp_of}
-use Rattle.term_logic.specs.Meaning.{Numbers, holds, holds_here}
-use Rattle.term_logic.specs.Same.{passes, same_formula}
-use Rattle.term_logic.proofs.Sameness.{same_formula-exact}
+use Rattle.term_trees.specs.declared.term.Formula.{Formula, out-Formula, map-Formula, fold_out-Formula}
+use Rattle.term_trees.specs.declared.term.Formula.TheOpen.{Formula-F, True, False, Not, And, Or, Imp}
+use Rattle.term_trees.specs.declared.term.Formula.TheVariants as formula
+use Rattle.term_trees.specs.Views.{true_here, false_here, not_here, and_here, or_here, imp_here, is_true, is_false, not_of, and_of, or_of, imp_of}
+use Rattle.term_trees.specs.Meaning.{Numbers, holds, holds_here}
+use Rattle.term_trees.specs.Same.{passes, same_formula}
+use Rattle.term_trees.proofs.Sameness.{same_formula-exact}
 use Rattle.bitvector_rules.specs.Truth.{Holds}
 
 -- what a test that passed shows

@@ -1,24 +1,25 @@
 -- A tree none of whose leaves is replaced is unchanged.
-use Rattle.term_logic.specs.Same.{same_formula}
+use Rattle.term_trees.specs.Same.{same_formula}
 use Rattle.std.proofs.Common.{◌≡◌, ℕ, Bor, List, [], None, refl, sym, ap, ◌∙◌}
-use Rattle.term_logic.specs.declared.term.Place.{Place}
-use Rattle.term_logic.specs.declared.term.Place.TheVariants.{Local, Stack, Global, Pages, Arg, Result}
-use Rattle.term_logic.specs.declared.term.Term.{Term, roll-Term, map-Term, fold-roll-Term}
-use Rattle.term_logic.specs.declared.term.Term.TheOpen.{Term-F, Num, Var, Own, At, Add, Sub, Mul, One, Two, Low, Sext, Sgn}
-use Rattle.term_logic.specs.declared.term.Term.TheVariants.{rolls-Num, rolls-Var, rolls-Own, rolls-At, rolls-Add, rolls-Sub, rolls-Mul, rolls-One, rolls-Two, rolls-Low, rolls-Sext, rolls-Sgn}
-use Rattle.term_logic.specs.declared.term.Term.TheVariants as term
+use Rattle.term_trees.specs.declared.term.Place.{Place}
+use Rattle.term_trees.specs.declared.term.Place.TheVariants.{Local, Stack, Global, Pages, Arg, Result}
+use Rattle.term_trees.specs.declared.term.Term.{Term, roll-Term, map-Term, fold-roll-Term}
+use Rattle.term_trees.specs.declared.term.Term.TheOpen.{Term-F, Num, Var, Own, At, Add, Sub, Mul, One, Two, Low, Sext, Sgn}
+use Rattle.term_trees.specs.declared.term.Term.TheVariants.{rolls-Num, rolls-Var, rolls-Own, rolls-At, rolls-Add, rolls-Sub, rolls-Mul, rolls-One, rolls-Two, rolls-Low, rolls-Sext, rolls-Sgn}
+use Rattle.term_trees.specs.declared.term.Term.TheVariants as term
 use Rattle.std.specs.Prelude.{unwrap_or}
 use Rattle.std.specs.Option.{option_map}
 use Rattle.term_logic.specs.Table.{tree_at}
 use Rattle.term_logic.proofs.Formulas.{formula_of-false, formula_of-not}
-use Rattle.term_logic.specs.declared.term.Formula.TheVariants as formula
-use Rattle.term_logic.specs.declared.term.Formula.{Formula, roll-Formula, map-Formula, fold-roll-Formula}
-use Rattle.term_logic.specs.declared.term.Formula.TheOpen.{Formula-F}
-use Rattle.term_logic.specs.declared.term.Formula.TheOpen as layer
-use Rattle.term_logic.specs.declared.term.Formula.TheVariants.{rolls-True, rolls-False, rolls-Eq, rolls-Le, rolls-Lt, rolls-Not, rolls-And, rolls-Or, rolls-Imp}
+use Rattle.term_trees.specs.declared.term.Formula.TheVariants as formula
+use Rattle.term_trees.specs.declared.term.Formula.{Formula, roll-Formula, map-Formula, fold-roll-Formula}
+use Rattle.term_trees.specs.declared.term.Formula.TheOpen.{Formula-F}
+use Rattle.term_trees.specs.declared.term.Formula.TheOpen as layer
+use Rattle.term_trees.specs.declared.term.Formula.TheVariants.{rolls-True, rolls-False, rolls-Eq, rolls-Le, rolls-Lt, rolls-Not, rolls-And, rolls-Or, rolls-Imp}
 use Rattle.term_logic.specs.declared.leaves.LeafIds.{LeafIds}
-use Rattle.term_logic.specs.Leaves.{Leaves, replaced_here, replaced, replaced_formula_here, replaced_formula, leaves_of, place_id}
-use Rattle.term_logic.proofs.Sameness.{induct, induct_formula}
+use Rattle.term_trees.specs.Leaves.{Leaves, replaced_here, replaced, replaced_formula_here, replaced_formula}
+use Rattle.term_logic.specs.Leaves.{leaves_of, place_id}
+use Rattle.term_trees.proofs.Sameness.{induct, induct_formula}
 
 -- there are no leaves
 pub record Empty (l : Leaves) : Type 0 where

@@ -4,14 +4,14 @@ use Rattle.std.specs.Prelude.{IfSome}
 use Rattle.std.specs.Option.{option_map, option_and_then}
 use Rattle.std.proofs.lemmas.Option.{same_Some}
 use Rattle.std.proofs.lemmas.List.Elements.{All-nil, All-head, All-tail, All-cons}
-use Rattle.term_logic.specs.declared.term.Formula.{Formula}
-use Rattle.term_logic.specs.declared.term.Formula.TheVariants as formula
-use Rattle.term_logic.specs.Ground.{both}
-use Rattle.term_logic.specs.Meaning.{Numbers, holds}
-use Rattle.term_logic.specs.Same.{passes, same_formula}
-use Rattle.term_logic.specs.Views.{is_false, not_of, and_of, or_of, imp_of}
-use Rattle.term_logic.proofs.Truths.{and_true}
-use Rattle.term_logic.proofs.Truths.{both as both_true}
+use Rattle.term_trees.specs.declared.term.Formula.{Formula}
+use Rattle.term_trees.specs.declared.term.Formula.TheVariants as formula
+use Rattle.term_trees.specs.Ground.{both}
+use Rattle.term_trees.specs.Meaning.{Numbers, holds}
+use Rattle.term_trees.specs.Same.{passes, same_formula}
+use Rattle.term_trees.specs.Views.{is_false, not_of, and_of, or_of, imp_of}
+use Rattle.term_trees.proofs.Truths.{and_true}
+use Rattle.term_trees.proofs.Truths.{both as both_true}
 use Rattle.equality_rules.proofs.EqualityLaws.{sound_refl, sound_eval, sound_floor, sound_ceil, sound_order, sound_notle, sound_notlt, sound_mulpos}
 use Rattle.equality_rules.proofs.LinearLaws.{sound_linear}
 use Rattle.equality_rules.proofs.RewriteLaws.{sound_rewrite}

@@ -2,12 +2,12 @@
 use Rattle.std.specs.Prelude.{ℕ, ℤ, ◌≤◌, ◌-◌, Bool, true, false, ◌&&◌, if◌then◌else◌, List, [], ◌∷◌, length, slice_get, Option, Some, None}
 use Rattle.std.specs.Option.{option_map, option_and_then}
 use Rattle.std.specs.List.{All}
-use Rattle.term_logic.specs.declared.term.Term.{Term}
-use Rattle.term_logic.specs.declared.term.Formula.{Formula}
-use Rattle.term_logic.specs.declared.term.Formula.TheVariants as formula
+use Rattle.term_trees.specs.declared.term.Term.{Term}
+use Rattle.term_trees.specs.declared.term.Formula.{Formula}
+use Rattle.term_trees.specs.declared.term.Formula.TheVariants as formula
 use Rattle.term_logic.specs.Formulas.{formula_bound, formula_of}
-use Rattle.term_logic.specs.Same.{passes, same_formula}
-use Rattle.term_logic.specs.Views.{is_true, is_false, not_of, and_of, or_of, imp_of}
+use Rattle.term_trees.specs.Same.{passes, same_formula}
+use Rattle.term_trees.specs.Views.{is_true, is_false, not_of, and_of, or_of, imp_of}
 use Rattle.integer_rules.specs.declared.rule.IntegerRule.{IntegerRule}
 use Rattle.bitvector_rules.specs.declared.step.Rule.{Rule}
 use Rattle.bitvector_rules.specs.declared.step.Rule.TheVariants.{Hyp, True, And, Left, Right, Orl, Orr, Cases, Assume, Apply, Contra, Refute, Clash, Explode, Refl, Rewrite, Eval, Linear, Floor, Ceil, Order, Notle, Notlt, Mulpos}

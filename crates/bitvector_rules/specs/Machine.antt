@@ -1,7 +1,7 @@
 -- The rules of machine integers in steps: all references name premises, and these and the conclusion fit the rule.
 use Rattle.std.specs.Prelude.{Bool, List, Option, Some, None}
-use Rattle.term_logic.specs.declared.term.Formula.{Formula}
-use Rattle.term_logic.specs.Same.{passes}
+use Rattle.term_trees.specs.declared.term.Formula.{Formula}
+use Rattle.term_trees.specs.Same.{passes}
 use Rattle.integer_rules.specs.declared.rule.IntegerRule.{IntegerRule}
 use Rattle.integer_rules.specs.declared.rule.IntegerRule.TheVariants as machine
 use Rattle.integer_rules.specs.Fits.{fits}

@@ -1,8 +1,8 @@
 -- The formulas of a step.
 use Rattle.std.specs.Prelude.{Bool, ◌&&◌, nat_le, List}
 use Rattle.std.specs.List.{list_all}
-use Rattle.term_logic.specs.declared.term.Formula.{Formula}
-use Rattle.term_logic.specs.Formulas.{formula_nodes, well_formed_formula}
+use Rattle.term_trees.specs.declared.term.Formula.{Formula}
+use Rattle.term_trees.specs.Formulas.{formula_nodes, well_formed_formula}
 use Rattle.bitvector_rules.specs.declared.step.Step.{Step, Step-F, fold-Step}
 
 -- Whether a formula may stand in a step: it is well formed and has at most 4,096 nodes.

@@ -1,8 +1,8 @@
 -- When facts and goals are true.
 use Rattle.std.specs.Prelude.{◌≡◌, List, Some, IsTrue, IfSome}
 use Rattle.std.specs.List.{All}
-use Rattle.term_logic.specs.declared.term.Formula.{Formula}
-use Rattle.term_logic.specs.Meaning.{Numbers, holds}
+use Rattle.term_trees.specs.declared.term.Formula.{Formula}
+use Rattle.term_trees.specs.Meaning.{Numbers, holds}
 use Rattle.bitvector_rules.specs.declared.step.Ref.{Ref}
 use Rattle.bitvector_rules.specs.declared.step.Step.{Step, out-Step}
 use Rattle.bitvector_rules.specs.Facts.{fact_at}

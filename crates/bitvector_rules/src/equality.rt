@@ -1,6 +1,7 @@
 ghost use Rattle.std.specs.Prelude.{◌≡◌, ◌≤◌, ◌&&◌, length, IfOk, IsTrue};
-ghost use Rattle.term_logic.specs.Formulas.{formula_bound, formula_of, well_formed_formula};
-ghost use Rattle.term_logic.specs.Same.{passes};
+ghost use Rattle.term_trees.specs.Formulas.{well_formed_formula};
+ghost use Rattle.term_logic.specs.Formulas.{formula_bound, formula_of};
+ghost use Rattle.term_trees.specs.Same.{passes};
 ghost use Rattle.equality_rules.specs.Equality.{is_eval, is_floor, is_ceil, is_notle, is_notlt, is_mulpos};
 ghost use Rattle.equality_rules.specs.Rewrite.{is_rewrite};
 ghost use Rattle.bitvector_rules.specs.Facts.{one_premise, two_premises, hyps_of, earlier_of, FactsWithin};

@@ -1,8 +1,9 @@
 ghost use Rattle.std.specs.Prelude.{◌≡◌, ◌≤◌, [], ◌∷◌, map, length, if◌then◌else◌, None, Some, IfOk, IfSome, IsTrue};
 ghost use Rattle.std.specs.Option.{option_map, option_and_then};
-ghost use Rattle.term_logic.specs.declared.term.Formula.TheVariants as formula;
-ghost use Rattle.term_logic.specs.Formulas.{formula_bound, formula_of, well_formed_formula};
-ghost use Rattle.term_logic.specs.Views.{not_of, or_of, imp_of};
+ghost use Rattle.term_trees.specs.declared.term.Formula.TheVariants as formula;
+ghost use Rattle.term_trees.specs.Formulas.{well_formed_formula};
+ghost use Rattle.term_logic.specs.Formulas.{formula_bound, formula_of};
+ghost use Rattle.term_trees.specs.Views.{not_of, or_of, imp_of};
 ghost use Rattle.bitvector_rules.specs.declared.step.Step.{out-Step};
 ghost use Rattle.bitvector_rules.specs.Facts.{is_empty, one_premise, hyps_of, earlier_of, FactsWithin};
 ghost use Rattle.bitvector_rules.specs.Machine.{machine_rule};

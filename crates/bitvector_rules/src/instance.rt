@@ -2,7 +2,7 @@ ghost use Rattle.std.specs.Prelude.{◌≡◌, ◌≤◌, [], map, length, IfOk,
 ghost use Rattle.std.specs.List.{list_all};
 ghost use Rattle.term_logic.specs.Formulas.{formula_bound, formula_of};
 ghost use Rattle.term_logic.specs.Extends.{Extends};
-ghost use Rattle.term_logic.specs.Same.{passes, same_formula};
+ghost use Rattle.term_trees.specs.Same.{passes, same_formula};
 ghost use Rattle.bitvector_rules.specs.Facts.{AllWithin};
 ghost use Rattle.bitvector_rules.specs.Goals.{last_formula, ends_match, has_shape, goal_of, GoalsWithin};
 ghost use Rattle.bitvector_rules.specs.Steps.{is_admissible};

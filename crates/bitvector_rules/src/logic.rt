@@ -1,7 +1,7 @@
 ghost use Rattle.std.specs.Prelude.{◌≡◌, ◌≤◌, ◌&&◌, length};
 ghost use Rattle.term_logic.specs.Formulas.{formula_bound, formula_of};
-ghost use Rattle.term_logic.specs.Same.{passes, same_formula};
-ghost use Rattle.term_logic.specs.Views.{is_false, not_of, and_of, or_of, imp_of};
+ghost use Rattle.term_trees.specs.Same.{passes, same_formula};
+ghost use Rattle.term_trees.specs.Views.{is_false, not_of, and_of, or_of, imp_of};
 ghost use Rattle.bitvector_rules.specs.Facts.{one_premise, two_premises, hyps_of, earlier_of, FactsWithin};
 
 use crate::facts::Facts;

@@ -1,8 +1,8 @@
 -- Instances and their shape.
 use Rattle.std.proofs.Common.{◌≡◌, IsTrue, List, [], ◌∷◌, ◌++◌, refl, sym, ap, subst, ◌∙◌}
-use Rattle.term_logic.specs.declared.term.Formula.{Formula}
-use Rattle.term_logic.specs.Same.{passes, same_formula}
-use Rattle.term_logic.proofs.Truths.{both, and_true}
+use Rattle.term_trees.specs.declared.term.Formula.{Formula}
+use Rattle.term_trees.specs.Same.{passes, same_formula}
+use Rattle.term_trees.proofs.Truths.{both, and_true}
 use Rattle.bitvector_rules.specs.declared.step.Step.{Step, out-Step}
 use Rattle.bitvector_rules.specs.Goals.{step_goals, last_formula, ends_match, has_shape}
 use Rattle.bitvector_rules.proofs.FormLemmas.{passed}

@@ -3,8 +3,8 @@ use Rattle.std.proofs.Common.{◌≡◌, ℕ, suc, ◌+◌, ◌<◌, ◌≤◌, 
 use Rattle.std.proofs.lemmas.List.{take-append-le, take_all, drop_all}
 use Rattle.std.proofs.lemmas.List.Elements.{All-push}
 use Rattle.std.proofs.Math.Seq.{drop-cons}
-use Rattle.term_logic.specs.declared.term.Term.{Term}
-use Rattle.term_logic.specs.declared.term.Formula.{Formula}
+use Rattle.term_trees.specs.declared.term.Term.{Term}
+use Rattle.term_trees.specs.declared.term.Formula.{Formula}
 use Rattle.term_logic.specs.declared.formula.IdFormula.{IdFormula}
 use Rattle.term_logic.specs.Formulas.{formula_bound, formula_of}
 use Rattle.term_logic.specs.Extends.{Extends}

@@ -4,15 +4,15 @@ use Rattle.std.specs.List.{list_all}
 use Rattle.std.specs.Option.{option_map}
 use Rattle.std.proofs.lemmas.List.{take-take}
 use Rattle.std.proofs.Math.Seq.{take-append_seam}
-use Rattle.term_logic.specs.declared.term.Term.{Term}
-use Rattle.term_logic.specs.declared.term.Formula.{Formula}
+use Rattle.term_trees.specs.declared.term.Term.{Term}
+use Rattle.term_trees.specs.declared.term.Formula.{Formula}
 use Rattle.term_logic.specs.Formulas.{formula_bound, formula_of}
 use Rattle.term_logic.specs.Extends.{Extends}
 use Rattle.derivation_check.specs.Facts.{hyps_at, earlier_at, facts_at}
 use Rattle.derivation_check.proofs.FactLemmas.{assumed_hyps, assumed_earlier}
 use Rattle.term_logic.specs.declared.formula.IdFormula.{IdFormula}
-use Rattle.term_logic.specs.Same.{passes, same_formula}
-use Rattle.term_logic.proofs.Truths.{both}
+use Rattle.term_trees.specs.Same.{passes, same_formula}
+use Rattle.term_trees.proofs.Truths.{both}
 use Rattle.bitvector_rules.specs.declared.step.Step.{Step, out-Step, fold_out-Step}
 use Rattle.bitvector_rules.specs.Goals.{step_goals}
 use Rattle.bitvector_rules.specs.Steps.{is_admissible_formula, admissible_here, is_admissible, all_admissible}

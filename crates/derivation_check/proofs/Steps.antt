@@ -2,8 +2,8 @@
 use Rattle.std.proofs.Common.{◌≡◌, ℕ, zero, suc, ◌-◌, Bool, ◌&&◌, List, [], ◌∷◌, ◌++◌, map, length, slice_get, refl, ap, ◌∙◌}
 use Rattle.std.proofs.lemmas.List.{length-map}
 use Rattle.std.specs.Option.{option_map}
-use Rattle.term_logic.specs.declared.term.Formula.{Formula}
-use Rattle.term_logic.specs.Same.{passes, same_formula}
+use Rattle.term_trees.specs.declared.term.Formula.{Formula}
+use Rattle.term_trees.specs.Same.{passes, same_formula}
 use Rattle.bitvector_rules.specs.declared.step.Step.{Step, out-Step, map-Step, fold_out-Step}
 use Rattle.bitvector_rules.specs.Goals.{step_goals}
 use Rattle.derivation_check.specs.Derivations.{all_pass, reach, all_reach, Tested, instance_here, tested, is_instance, conclusion_of}

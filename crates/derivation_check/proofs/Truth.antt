@@ -4,10 +4,10 @@ use Rattle.std.specs.List.{All}
 use Rattle.std.specs.Option.{option_map}
 use Rattle.std.proofs.lemmas.Option.{same_Some}
 use Rattle.std.proofs.lemmas.List.Elements.{All-cons, All-push, All-append}
-use Rattle.term_logic.specs.declared.term.Formula.{Formula}
-use Rattle.term_logic.specs.Meaning.{Numbers}
-use Rattle.term_logic.specs.Same.{same_formula}
-use Rattle.term_logic.proofs.Truths.{both}
+use Rattle.term_trees.specs.declared.term.Formula.{Formula}
+use Rattle.term_trees.specs.Meaning.{Numbers}
+use Rattle.term_trees.specs.Same.{same_formula}
+use Rattle.term_trees.proofs.Truths.{both}
 use Rattle.bitvector_rules.specs.declared.step.Step.{Step, Step-F, out-Step, roll-Step, out-roll-Step, map-Step, ind-Step}
 use Rattle.bitvector_rules.specs.Goals.{step_goals}
 use Rattle.bitvector_rules.specs.Truth.{Holds, AllHold, AllMet}

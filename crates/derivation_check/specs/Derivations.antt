@@ -1,9 +1,9 @@
 -- What a derivation is: a list of steps, each an instance of its rule over the hypotheses and the conclusions before it.
 use Rattle.std.specs.Prelude.{ℕ, suc, ◌-◌, Bool, true, false, ◌&&◌, if◌then◌else◌, List, [], ◌∷◌, ◌++◌, length, slice_get, IsTrue}
 use Rattle.std.specs.Option.{option_map}
-use Rattle.term_logic.specs.declared.term.Formula.{Formula}
-use Rattle.term_logic.specs.Meaning.{Numbers}
-use Rattle.term_logic.specs.Same.{passes, same_formula}
+use Rattle.term_trees.specs.declared.term.Formula.{Formula}
+use Rattle.term_trees.specs.Meaning.{Numbers}
+use Rattle.term_trees.specs.Same.{passes, same_formula}
 use Rattle.bitvector_rules.specs.declared.step.Step.{Step, Step-F, out-Step, fold-Step}
 use Rattle.bitvector_rules.specs.Goals.{step_goals}
 use Rattle.bitvector_rules.specs.Truth.{Holds, AllHold}

@@ -1,7 +1,7 @@
 -- The facts of a check: the hypotheses that are given, and those that the check adds.
 use Rattle.std.specs.Prelude.{ℕ, List, ◌++◌, map, take, drop}
-use Rattle.term_logic.specs.declared.term.Term.{Term}
-use Rattle.term_logic.specs.declared.term.Formula.{Formula}
+use Rattle.term_trees.specs.declared.term.Term.{Term}
+use Rattle.term_trees.specs.declared.term.Formula.{Formula}
 use Rattle.term_logic.specs.declared.formula.IdFormula.{IdFormula}
 use Rattle.term_logic.specs.Formulas.{formula_of}
 

@@ -1,7 +1,7 @@
 //! Laws over the definitions alone.
 
 ghost use Rattle.std.specs.Prelude.{◌≡◌, List, [], IsTrue};
-ghost use Rattle.term_logic.specs.declared.term.Formula.{Formula};
+ghost use Rattle.term_trees.specs.declared.term.Formula.{Formula};
 ghost use Rattle.bitvector_rules.specs.declared.step.Step.{Step, out-Step};
 ghost use Rattle.bitvector_rules.specs.Goals.{has_shape};
 ghost use Rattle.derivation_check.specs.Derivations.{Instance, Derives, Follows};

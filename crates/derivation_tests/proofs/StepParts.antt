@@ -1,7 +1,7 @@
 -- The formulas of a step are its own and those of its sub-derivations.
 use Rattle.std.proofs.Common.{◌≡◌, Bool, ◌&&◌, IsTrue, List, [], ◌∷◌, map, refl, ap, sym, ◌∙◌}
 use Rattle.std.specs.List.{list_all}
-use Rattle.term_logic.proofs.Truths.{and_true}
+use Rattle.term_trees.proofs.Truths.{and_true}
 use Rattle.bitvector_rules.specs.declared.step.Step.{Step, out-Step, fold_out-Step}
 use Rattle.bitvector_rules.specs.Steps.{is_admissible_formula, admissible_here, is_admissible, all_admissible}
 

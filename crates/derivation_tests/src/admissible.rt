@@ -1,8 +1,8 @@
 ghost use Rattle.std.specs.Prelude.{◌≡◌, min, IsTrue};
 ghost use Rattle.std.specs.List.{list_all};
 ghost use Rattle.wasm_values.specs.Operators.{operands, num_operands};
-ghost use Rattle.term_logic.specs.Terms.{well_formed, is_low_width, is_sext_pair, is_sgn_width};
-ghost use Rattle.term_logic.specs.Formulas.{formula_nodes, well_formed_formula};
+ghost use Rattle.term_trees.specs.Terms.{well_formed, is_low_width, is_sext_pair, is_sgn_width};
+ghost use Rattle.term_trees.specs.Formulas.{formula_nodes, well_formed_formula};
 ghost use Rattle.bitvector_rules.specs.Steps.{is_admissible_formula, is_admissible, all_admissible};
 
 use bitvector_rules::Step;

@@ -1,12 +1,12 @@
 -- What a term becomes, by its outermost form.
 use Rattle.std.proofs.Common.{◌≡◌, ℕ, Bool, true, false, ◌&&◌, ◌||◌, List, sym, ap, ◌∙◌}
-use Rattle.term_logic.specs.declared.term.Term.{Term, roll-Term, out-Term, roll-out-Term, map-Term}
-use Rattle.term_logic.specs.declared.term.Term.TheOpen.{Term-F}
+use Rattle.term_trees.specs.declared.term.Term.{Term, roll-Term, out-Term, roll-out-Term, map-Term}
+use Rattle.term_trees.specs.declared.term.Term.TheOpen.{Term-F}
 use Rattle.term_logic.specs.declared.table.TermCell.{TermCell}
 use Rattle.term_logic.specs.Table.{cell_layer, tree_at}
-use Rattle.term_logic.specs.Same.{same_here, same}
-use Rattle.term_logic.proofs.Sameness.{map_map}
-use Rattle.term_logic.proofs.Subterms.{with-roll}
+use Rattle.term_trees.specs.Same.{same_here, same}
+use Rattle.term_trees.proofs.Sameness.{map_map}
+use Rattle.term_trees.proofs.Subterms.{with-roll}
 use Rattle.equality_rules.specs.Rewrite.{layer_becomes, becomes, cell_becomes}
 
 module _ (a b : Term) where

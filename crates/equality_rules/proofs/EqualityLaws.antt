@@ -7,17 +7,17 @@ use Rattle.std.proofs.lemmas.Int.{ints}
 use Rattle.std.proofs.lemmas.Option.{same_Some}
 use Rattle.std.proofs.lemmas.Bool.Decides.{Decides-int_eq}
 use borrow.Author.Differences.{same_in, lt-false}
-use Rattle.term_logic.specs.declared.term.Term.{Term, out-Term, fold_out-Term, map-Term}
-use Rattle.term_logic.specs.declared.term.Term.TheOpen.{Term-F, Num, Mul}
-use Rattle.term_logic.specs.declared.term.Formula.{Formula}
-use Rattle.term_logic.specs.Ground.{ground_truth}
-use Rattle.term_logic.specs.Ground.{both as both_of}
-use Rattle.term_logic.specs.Meaning.{Numbers, value_here, value, holds}
-use Rattle.term_logic.specs.Same.{same}
-use Rattle.term_logic.specs.Views.{num_here, product_here, num_of, product_of, eq_of, le_of, lt_of, not_of, or_of}
-use Rattle.term_logic.proofs.GroundLaws.{holds-ground}
-use Rattle.term_logic.proofs.Sameness.{same-exact}
-use Rattle.term_logic.proofs.Truths.{both}
+use Rattle.term_trees.specs.declared.term.Term.{Term, out-Term, fold_out-Term, map-Term}
+use Rattle.term_trees.specs.declared.term.Term.TheOpen.{Term-F, Num, Mul}
+use Rattle.term_trees.specs.declared.term.Formula.{Formula}
+use Rattle.term_trees.specs.Ground.{ground_truth}
+use Rattle.term_trees.specs.Ground.{both as both_of}
+use Rattle.term_trees.specs.Meaning.{Numbers, value_here, value, holds}
+use Rattle.term_trees.specs.Same.{same}
+use Rattle.term_trees.specs.Views.{num_here, product_here, num_of, product_of, eq_of, le_of, lt_of, not_of, or_of}
+use Rattle.term_trees.proofs.GroundLaws.{holds-ground}
+use Rattle.term_trees.proofs.Sameness.{same-exact}
+use Rattle.term_trees.proofs.Truths.{both}
 use Rattle.equality_rules.specs.Equality.{are_sides, is_refl, is_eval, is_equal_or_above, is_order, is_notle, is_notlt, is_zero, nonnegative_of, is_mulpos, together, multiple_of, upper_of, lower_of, is_greatest, is_least, is_floor, is_ceil}
 use Rattle.equality_rules.proofs.Forms.{passed, sides_are, holds-eq, holds-le, holds-lt, holds-not, holds-or}
 use Rattle.equality_rules.proofs.Quotients.{at_most_greatest, at_least_least}

@@ -3,14 +3,14 @@ use Rattle.std.proofs.Common.{◌≡◌, Bool, not, ◌||◌, IsTrue, Option, So
 use Rattle.std.specs.Prelude.{int_lt, int_le}
 use Rattle.std.specs.Ordering.{int_eq}
 use Rattle.std.proofs.lemmas.Option.{same_Some}
-use Rattle.term_logic.specs.declared.term.Term.{Term}
-use Rattle.term_logic.specs.declared.term.Formula.{Formula, out-Formula, map-Formula, fold_out-Formula}
-use Rattle.term_logic.specs.declared.term.Formula.TheOpen.{Formula-F, Eq, Le, Lt, Not, Or}
-use Rattle.term_logic.specs.Views.{eq_here, le_here, lt_here, not_here, or_here, eq_of, le_of, lt_of, not_of, or_of}
-use Rattle.term_logic.specs.Meaning.{Numbers, value, holds, holds_here}
-use Rattle.term_logic.specs.Same.{passes, same}
-use Rattle.term_logic.proofs.Sameness.{same-exact}
-use Rattle.term_logic.proofs.Truths.{both}
+use Rattle.term_trees.specs.declared.term.Term.{Term}
+use Rattle.term_trees.specs.declared.term.Formula.{Formula, out-Formula, map-Formula, fold_out-Formula}
+use Rattle.term_trees.specs.declared.term.Formula.TheOpen.{Formula-F, Eq, Le, Lt, Not, Or}
+use Rattle.term_trees.specs.Views.{eq_here, le_here, lt_here, not_here, or_here, eq_of, le_of, lt_of, not_of, or_of}
+use Rattle.term_trees.specs.Meaning.{Numbers, value, holds, holds_here}
+use Rattle.term_trees.specs.Same.{passes, same}
+use Rattle.term_trees.proofs.Sameness.{same-exact}
+use Rattle.term_trees.proofs.Truths.{both}
 use Rattle.equality_rules.specs.Equality.{are_sides}
 
 -- what a test that passed shows

@@ -9,17 +9,17 @@ use Rattle.std.proofs.lemmas.Option.{same_Some}
 use Rattle.std.proofs.lemmas.List.Elements.{All-head, All-tail}
 use Rattle.std.proofs.lemmas.Bool.Decides.{Decides-int_eq}
 use Rattle.std.proofs.Math.IntN.{*ℤ-zero}
-use Rattle.term_logic.specs.declared.term.Term.{Term, fold-roll-Term}
-use Rattle.term_logic.specs.declared.term.Term.TheOpen.{Num, Add, Sub, Mul}
-use Rattle.term_logic.specs.declared.term.Term.TheVariants as term
-use Rattle.term_logic.specs.declared.term.Formula.{Formula}
-use Rattle.term_logic.specs.Meaning.{Numbers, value_here, value, holds}
-use Rattle.term_logic.specs.Normal.{Form, is_constant, form, distinct}
-use Rattle.term_logic.specs.Views.{is_false, eq_of, le_of, lt_of}
-use Rattle.term_logic.proofs.LinearForms.{form-covers}
-use Rattle.term_logic.proofs.NormalValue.{form-value}
-use Rattle.term_logic.proofs.Rings.{skip_zero, plus_zero}
-use Rattle.term_logic.proofs.Truths.{both}
+use Rattle.term_trees.specs.declared.term.Term.{Term, fold-roll-Term}
+use Rattle.term_trees.specs.declared.term.Term.TheOpen.{Num, Add, Sub, Mul}
+use Rattle.term_trees.specs.declared.term.Term.TheVariants as term
+use Rattle.term_trees.specs.declared.term.Formula.{Formula}
+use Rattle.term_trees.specs.Meaning.{Numbers, value_here, value, holds}
+use Rattle.term_trees.specs.Normal.{Form, is_constant, form, distinct}
+use Rattle.term_trees.specs.Views.{is_false, eq_of, le_of, lt_of}
+use Rattle.term_trees.proofs.LinearForms.{form-covers}
+use Rattle.term_trees.proofs.NormalValue.{form-value}
+use Rattle.term_trees.proofs.Rings.{skip_zero, plus_zero}
+use Rattle.term_trees.proofs.Truths.{both}
 use Rattle.equality_rules.specs.Equality.{together}
 use Rattle.equality_rules.specs.Linear.{difference, strict_difference, first_of, claimed_term, concluded_term, is_equation, weighed_term, weighted, sum_after, weighted_sum, is_bounded, is_remainder, is_sum, is_linear}
 use Rattle.equality_rules.proofs.Coefficients.{each_coefficient}

@@ -6,7 +6,7 @@ use Rattle.std.specs.Ordering.{int_eq}
 use Rattle.std.proofs.lemmas.Int.{ints}
 use Rattle.std.proofs.lemmas.Bool.Decides.{Decides-int_eq}
 use borrow.Author.Differences.{up, down, same_in, sum_is_lem, product_is, lt-false, le-true}
-use Rattle.term_logic.proofs.Truths.{both, and_true, one_test}
+use Rattle.term_trees.proofs.Truths.{both, and_true, one_test}
 use Rattle.equality_rules.specs.Equality.{is_greatest, is_least}
 
 -- x is at most y, and x is below y

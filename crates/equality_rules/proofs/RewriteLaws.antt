@@ -5,18 +5,18 @@ use Rattle.std.specs.Ordering.{int_eq}
 use Rattle.std.proofs.lemmas.Bool.{eqb-true}
 use Rattle.std.proofs.lemmas.Bool.Decides.{Decides-int_eq}
 use Rattle.wasm_values.specs.contracts.number.NumOpPartialEq.TheImpl as operator
-use Rattle.term_logic.specs.contracts.term.PlacePartialEq.TheImpl as place
-use Rattle.term_logic.specs.declared.term.Term.{Term, roll-Term, out-Term, map-Term, fold-roll-Term, fold_out-Term}
-use Rattle.term_logic.specs.declared.term.Term.TheOpen.{Term-F, Num, Var, Own, At, Add, Sub, Mul, One, Two, Low, Sext, Sgn}
-use Rattle.term_logic.specs.declared.term.Formula.{Formula, out-Formula, map-Formula, fold-roll-Formula, fold_out-Formula}
-use Rattle.term_logic.specs.declared.term.Formula.TheOpen.{Formula-F}
-use Rattle.term_logic.specs.declared.term.Formula.TheOpen as form
-use Rattle.term_logic.specs.Meaning.{Numbers, value_here, value, holds_here, holds}
-use Rattle.term_logic.specs.Same.{passes, same_here, same}
-use Rattle.term_logic.specs.Views.{num_here, var_here, own_here, place_here, sum_here, difference_here, product_here, one_here, two_here, low_here, sext_here, sgn_here, true_here, false_here, eq_here, le_here, lt_here, not_here, and_here, or_here, imp_here, eq_of}
-use Rattle.term_logic.proofs.Cells.{exact_place, exact_num_op}
-use Rattle.term_logic.proofs.Sameness.{induct, induct_formula, map_map, map_map_form, same-exact}
-use Rattle.term_logic.proofs.Truths.{both}
+use Rattle.term_trees.specs.contracts.term.PlacePartialEq.TheImpl as place
+use Rattle.term_trees.specs.declared.term.Term.{Term, roll-Term, out-Term, map-Term, fold-roll-Term, fold_out-Term}
+use Rattle.term_trees.specs.declared.term.Term.TheOpen.{Term-F, Num, Var, Own, At, Add, Sub, Mul, One, Two, Low, Sext, Sgn}
+use Rattle.term_trees.specs.declared.term.Formula.{Formula, out-Formula, map-Formula, fold-roll-Formula, fold_out-Formula}
+use Rattle.term_trees.specs.declared.term.Formula.TheOpen.{Formula-F}
+use Rattle.term_trees.specs.declared.term.Formula.TheOpen as form
+use Rattle.term_trees.specs.Meaning.{Numbers, value_here, value, holds_here, holds}
+use Rattle.term_trees.specs.Same.{passes, same_here, same}
+use Rattle.term_trees.specs.Views.{num_here, var_here, own_here, place_here, sum_here, difference_here, product_here, one_here, two_here, low_here, sext_here, sgn_here, true_here, false_here, eq_here, le_here, lt_here, not_here, and_here, or_here, imp_here, eq_of}
+use Rattle.term_trees.proofs.Equalities.{exact_place, exact_num_op}
+use Rattle.term_trees.proofs.Sameness.{induct, induct_formula, map_map, map_map_form, same-exact}
+use Rattle.term_trees.proofs.Truths.{both}
 use Rattle.equality_rules.specs.Rewrite.{becomes, formula_becomes_here, formula_becomes, is_rewrite}
 use Rattle.equality_rules.proofs.Becomes.{becomes-roll}
 use Rattle.equality_rules.proofs.Forms.{passed, holds-eq}

@@ -2,11 +2,11 @@
 use Rattle.std.specs.Prelude.{ℤ, pos, ◌+ℤ◌, ◌-ℤ◌, ◌*ℤ◌, Bool, ◌&&◌, int_lt, int_le, if◌then◌else◌, Option, Some, None}
 use Rattle.std.specs.Option.{option_map, option_and_then}
 use Rattle.std.specs.Ordering.{int_eq}
-use Rattle.term_logic.specs.declared.term.Term.{Term}
-use Rattle.term_logic.specs.declared.term.Formula.{Formula}
-use Rattle.term_logic.specs.Ground.{both, ground_truth}
-use Rattle.term_logic.specs.Same.{passes, same}
-use Rattle.term_logic.specs.Views.{num_of, product_of, eq_of, le_of, lt_of, not_of, or_of}
+use Rattle.term_trees.specs.declared.term.Term.{Term}
+use Rattle.term_trees.specs.declared.term.Formula.{Formula}
+use Rattle.term_trees.specs.Ground.{both, ground_truth}
+use Rattle.term_trees.specs.Same.{passes, same}
+use Rattle.term_trees.specs.Views.{num_of, product_of, eq_of, le_of, lt_of, not_of, or_of}
 
 -- whether there are two sides, and they are a and b
 abbrev pub are_sides : Option (Term × Term) → Term → Term → Bool

@@ -3,12 +3,12 @@ use Rattle.std.specs.Prelude.{ℤ, pos, negsuc, Bool, not, ◌&&◌, ◌||◌, i
 use Rattle.std.specs.Option.{option_map, option_and_then}
 use Rattle.std.specs.List.{list_all}
 use Rattle.std.specs.Ordering.{int_eq}
-use Rattle.term_logic.specs.declared.term.Term.{Term}
-use Rattle.term_logic.specs.declared.term.Term.TheVariants as term
-use Rattle.term_logic.specs.declared.term.Formula.{Formula}
-use Rattle.term_logic.specs.Normal.{Form, form, on_the_way, fits, is_constant}
-use Rattle.term_logic.specs.Same.{passes}
-use Rattle.term_logic.specs.Views.{is_false, eq_of, le_of, lt_of}
+use Rattle.term_trees.specs.declared.term.Term.{Term}
+use Rattle.term_trees.specs.declared.term.Term.TheVariants as term
+use Rattle.term_trees.specs.declared.term.Formula.{Formula}
+use Rattle.term_trees.specs.Normal.{Form, form, on_the_way, fits, is_constant}
+use Rattle.term_trees.specs.Same.{passes}
+use Rattle.term_trees.specs.Views.{is_false, eq_of, le_of, lt_of}
 use Rattle.equality_rules.specs.Equality.{together}
 
 -- b - a, for the sides a and b

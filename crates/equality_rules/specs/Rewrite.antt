@@ -1,13 +1,13 @@
 -- Rewriting: some of the subterms a of a formula replaced by b.
 use Rattle.std.specs.Prelude.{ℕ, Bool, ◌&&◌, ◌||◌, List}
-use Rattle.term_logic.specs.declared.term.Term.{Term, fold-Term, roll-Term, map-Term}
-use Rattle.term_logic.specs.declared.term.Term.TheOpen.{Term-F}
-use Rattle.term_logic.specs.declared.term.Formula.{Formula, fold-Formula}
-use Rattle.term_logic.specs.declared.term.Formula.TheOpen.{Formula-F, True, False, Eq, Le, Lt, Not, And, Or, Imp}
+use Rattle.term_trees.specs.declared.term.Term.{Term, fold-Term, roll-Term, map-Term}
+use Rattle.term_trees.specs.declared.term.Term.TheOpen.{Term-F}
+use Rattle.term_trees.specs.declared.term.Formula.{Formula, fold-Formula}
+use Rattle.term_trees.specs.declared.term.Formula.TheOpen.{Formula-F, True, False, Eq, Le, Lt, Not, And, Or, Imp}
 use Rattle.term_logic.specs.declared.table.TermCell.{TermCell}
 use Rattle.term_logic.specs.Table.{cell_layer, tree_at}
-use Rattle.term_logic.specs.Same.{passes, same_here, same}
-use Rattle.term_logic.specs.Views.{is_true, is_false, eq_of, le_of, lt_of, not_of, and_of, or_of, imp_of}
+use Rattle.term_trees.specs.Same.{passes, same_here, same}
+use Rattle.term_trees.specs.Views.{is_true, is_false, eq_of, le_of, lt_of, not_of, and_of, or_of, imp_of}
 
 -- whether the term t becomes u, from whether its parts become given terms: t is a and u is b, or u is built the same way
 -- from what the parts become

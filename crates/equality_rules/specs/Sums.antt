@@ -1,50 +1,39 @@
--- Sums of linear forms as lists of parts, as the code computes them.
-use Rattle.std.specs.Prelude.{ℤ, ◌+ℤ◌, ◌*ℤ◌, Bool, not, ◌&&◌, int_le, if◌then◌else◌, List, [], ◌∷◌, ◌++◌, map, filter, Option, Some, None}
+-- Sums of the linear forms of premises, as the code computes them.
+use Rattle.std.specs.Prelude.{ℤ, Bool, ◌&&◌, int_le, if◌then◌else◌, List, [], ◌∷◌, Option, Some, None}
 use Rattle.std.specs.Option.{option_map, option_and_then}
 use Rattle.std.specs.List.{list_all}
 use Rattle.std.specs.Ordering.{int_eq}
-use Rattle.term_logic.specs.declared.term.Term.{Term}
-use Rattle.term_logic.specs.declared.forms.Normal.{Normal}
-use Rattle.equality_rules.specs.declared.sums.Combination.{Combination}
-use Rattle.term_logic.specs.Normal.{is_low, normal_form}
-use Rattle.term_logic.specs.Linear.{Parts, coefficient_in, occurs_in, limited, limited_parts, shown}
+use Rattle.term_trees.specs.declared.term.Term.{Term}
+use Rattle.term_trees.specs.declared.term.Formula.{Formula}
+use Rattle.term_trees.specs.declared.linear.Way.TheVariants.{Sum, Times}
+use Rattle.term_trees.specs.Linear.{Parts, coefficient_in, limited, joined, linear_parts}
+use Rattle.equality_rules.specs.Linear.{claimed_term, concluded_term, weighed_term}
 
--- the coefficients, each times a number
-abbrev pub scaled_parts : ℤ → List (Term × ℤ) → List (Term × ℤ)
-scaled_parts k ps = map (λ p. (p.0, k *ℤ p.1)) ps
+-- the form of a claimed term
+abbrev pub claimed_form : Formula → Option Parts
+claimed_form f = option_and_then linear_parts (claimed_term f)
+
+-- the form of a concluded term
+abbrev pub concluded_form : Formula → Option Parts
+concluded_form c = option_and_then linear_parts (concluded_term c)
+
+-- the form of the term of a premise that may have the number
+abbrev pub weighed_form : Formula → ℤ → Option Parts
+weighed_form f k = option_and_then linear_parts (weighed_term f k)
 
 -- a number times a form, where all is low
 abbrev pub scaled : ℤ → Parts → Option Parts
-scaled k f =
-    if is_low k then option_and_then (λ c. option_map (λ ps. (c, ps)) (limited_parts (scaled_parts k f.1))) (limited (k *ℤ f.0)) else None
+scaled k g = option_and_then (λ n. joined (Times k) n g) (option_map (λ c. (c, [])) (limited k))
 
--- the first parts, each with what the second have of its term
-abbrev pub kept_parts : List (Term × ℤ) → List (Term × ℤ) → List (Term × ℤ)
-kept_parts ps qs = map (λ p. (p.0, p.1 +ℤ coefficient_in qs p.0)) ps
+-- a sum, and a premise's form times its number, where all is low
+abbrev pub added : Parts → Formula → ℤ → Option Parts
+added s f k = option_and_then (λ g. option_and_then (λ p. joined Sum s p) (scaled k g)) (weighed_form f k)
 
--- the second parts whose terms are none of the first
-abbrev pub fresh_parts : List (Term × ℤ) → List (Term × ℤ) → List (Term × ℤ)
-fresh_parts ps qs = filter (λ q. not (occurs_in ps q.0)) qs
-
--- the sum of two forms, the second of low numbers, where it is of low numbers too
-abbrev pub summed : Parts → Parts → Option Parts
-summed s g = option_and_then (λ c. option_map (λ ps. (c, ps ++ fresh_parts s.1 g.1)) (limited_parts (kept_parts s.1 g.1))) (limited (s.0 +ℤ g.0))
-
-abbrev pub shown_form : Combination → Parts
-shown_form l = (l.constant, shown l.parts.items)
-
-abbrev pub shown_normal : Normal → Parts
-shown_normal f = (f.constant, f.parts)
-
--- a sum, and then each form times its number, where all is low
-abbrev pub total_after : Parts → List (ℤ × Normal) → Option Parts
-total_after s [] = Some s
-total_after s (p ∷ ps) = option_and_then (λ t. total_after t ps) (option_and_then (λ g. summed s g) (scaled p.0 (shown_normal p.1)))
-
--- the normal forms of terms that have numbers
-abbrev pub normal_forms : List (ℤ × Term) → Option (List (ℤ × Normal))
-normal_forms [] = Some []
-normal_forms (p ∷ ps) = option_and_then (λ f. option_map (λ fs. (p.0, f) ∷ fs) (normal_forms ps)) (normal_form p.1)
+-- a sum, and then each premise's form times its number, where all is low
+abbrev pub total_after : Parts → List Formula → List ℤ → Option Parts
+total_after s [] [] = Some s
+total_after s (f ∷ fs) (k ∷ ks) = option_and_then (λ t. total_after t fs ks) (added s f k)
+total_after _ _ _ = None
 
 -- whether each of the first parts has the coefficient that the second have of its term
 abbrev pub agrees : List (Term × ℤ) → List (Term × ℤ) → Bool

@@ -1,7 +1,8 @@
 ghost use Rattle.std.specs.Prelude.{◌≡◌, ◌<◌, ◌≤◌, length, IfSome, IsTrue};
 ghost use Rattle.std.specs.Option.{option_map};
 ghost use Rattle.term_logic.specs.Table.{tree_at};
-ghost use Rattle.term_logic.specs.Formulas.{formula_bound, formula_of, well_formed_formula};
+ghost use Rattle.term_trees.specs.Formulas.{well_formed_formula};
+ghost use Rattle.term_logic.specs.Formulas.{formula_bound, formula_of};
 ghost use Rattle.equality_rules.specs.Equality.{are_sides, is_refl, is_eval, is_equal_or_above, is_order, is_notle, is_notlt, is_zero, nonnegative_of, is_mulpos};
 
 use term_logic::{Formula, IdFormula, TermId, TermTable, ground};

@@ -2,8 +2,8 @@
 
 ghost use Rattle.std.specs.Prelude.{ℤ, List, IsTrue};
 ghost use Rattle.std.specs.List.{All};
-ghost use Rattle.term_logic.specs.declared.term.Formula.{Formula};
-ghost use Rattle.term_logic.specs.Meaning.{Numbers, holds};
+ghost use Rattle.term_trees.specs.declared.term.Formula.{Formula};
+ghost use Rattle.term_trees.specs.Meaning.{Numbers, holds};
 ghost use Rattle.equality_rules.specs.Equality.{is_refl, is_eval, is_order, is_notle, is_notlt, is_mulpos, is_floor, is_ceil};
 ghost use Rattle.equality_rules.specs.Linear.{is_linear};
 ghost use Rattle.equality_rules.specs.Rewrite.{is_rewrite};

@@ -1,7 +1,7 @@
 ghost use Rattle.std.specs.Prelude.{◌≡◌, ◌<◌, ◌≤◌, ◌&&◌, length};
 ghost use Rattle.term_logic.specs.Table.{tree_at, CellWithin};
 ghost use Rattle.term_logic.specs.Formulas.{formula_bound, formula_of};
-ghost use Rattle.term_logic.specs.Same.{same};
+ghost use Rattle.term_trees.specs.Same.{same};
 ghost use Rattle.equality_rules.specs.Rewrite.{becomes, cell_becomes, formula_becomes, is_rewrite};
 
 use term_logic::{IdFormula, TermCell, TermId, TermTable};

@@ -6,15 +6,15 @@ use Rattle.wasm_values.specs.declared.number.ValType.{ValType}
 use Rattle.wasm_values.specs.declared.number.IntOp.{IntOp}
 use Rattle.wasm_values.specs.declared.number.NumOp.{NumOp}
 use Rattle.wasm_values.specs.Operators.{width_of}
-use Rattle.term_logic.specs.declared.term.Term.{Term}
-use Rattle.term_logic.specs.declared.term.Formula.{Formula}
-use Rattle.term_logic.specs.Meaning.{Numbers, holds}
-use Rattle.term_logic.specs.Same.{passes, same_formula}
-use Rattle.term_logic.specs.Terms.{is_low_width, is_sext_pair}
-use Rattle.term_logic.specs.Views.{num_of, one_of, low_of, sext_of, sgn_of, le_of}
-use Rattle.term_logic.specs.declared.term.Term.TheVariants as term
-use Rattle.term_logic.proofs.Sameness.{same_formula-exact}
-use Rattle.term_logic.proofs.Truths.{both}
+use Rattle.term_trees.specs.declared.term.Term.{Term}
+use Rattle.term_trees.specs.declared.term.Formula.{Formula}
+use Rattle.term_trees.specs.Meaning.{Numbers, holds}
+use Rattle.term_trees.specs.Same.{passes, same_formula}
+use Rattle.term_trees.specs.Terms.{is_low_width, is_sext_pair}
+use Rattle.term_trees.specs.Views.{num_of, one_of, low_of, sext_of, sgn_of, le_of}
+use Rattle.term_trees.specs.declared.term.Term.TheVariants as term
+use Rattle.term_trees.proofs.Sameness.{same_formula-exact}
+use Rattle.term_trees.proofs.Truths.{both}
 use Rattle.integer_rules.specs.declared.rule.IntegerRule.{IntegerRule}
 use Rattle.integer_rules.specs.declared.rule.IntegerRule.TheVariants as rule
 use Rattle.integer_rules.specs.Rows.{Row, range_row, add_row, addwrap_row, sub_row, subwrap_row, mul_row, divu_row, divs_row, unsigned_claim, signed_claim, test_row, zero_row, tests_row, sgn_row, shift_as, shift_row, mask_row, changed, changed_row, low_row, sext_row}

@@ -22,9 +22,9 @@ use Rattle.wasm_values.specs.declared.number.NumOp.{NumOp}
 use Rattle.wasm_values.specs.declared.number.NumOp.TheVariants.{W32, W64, Wrap, ExtendS, ExtendU}
 use Rattle.wasm_values.specs.Operators.{num_width, num_unary, num_binary}
 use Rattle.wasm_values.proofs.RangeLaws.{num_unary-lt, sign_extended-lt}
-use Rattle.term_logic.specs.Terms.{is_low_width, is_sext_pair}
+use Rattle.term_trees.specs.Terms.{is_low_width, is_sext_pair}
 use Rattle.integer_rules.specs.Rows.{limit, shift_as}
-use Rattle.term_logic.specs.Meaning.{modulo}
+use Rattle.term_trees.specs.Meaning.{modulo}
 use Rattle.integer_rules.specs.Rows.{limited}
 use Rattle.wasm_values.specs.Operators.{IsWidth}
 use Rattle.wasm_values.proofs.RangeLaws.{binary-lt}

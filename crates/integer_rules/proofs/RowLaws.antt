@@ -11,14 +11,14 @@ use Rattle.wasm_values.specs.declared.number.IntOp.TheVariants as op
 use Rattle.wasm_values.specs.declared.number.NumOp.{NumOp}
 use Rattle.wasm_values.specs.declared.number.NumOp.TheVariants.{W32, W64, Wrap, ExtendS, ExtendU}
 use Rattle.wasm_values.specs.Operators.{width_of, signed, truth, sign_extended}
-use Rattle.term_logic.specs.declared.term.Term.{Term, Term-F, out-Term, map-Term, fold_out-Term}
-use Rattle.term_logic.specs.declared.term.Term.TheOpen as layer
-use Rattle.term_logic.specs.declared.term.Term.TheVariants as term
-use Rattle.term_logic.specs.declared.term.Formula.{Formula}
-use Rattle.term_logic.specs.declared.term.Formula.TheVariants as formula
-use Rattle.term_logic.specs.Meaning.{Numbers, modulo, value_here, value, holds}
-use Rattle.term_logic.specs.Terms.{is_low_width, is_sext_pair}
-use Rattle.term_logic.proofs.Truths.{both}
+use Rattle.term_trees.specs.declared.term.Term.{Term, Term-F, out-Term, map-Term, fold_out-Term}
+use Rattle.term_trees.specs.declared.term.Term.TheOpen as layer
+use Rattle.term_trees.specs.declared.term.Term.TheVariants as term
+use Rattle.term_trees.specs.declared.term.Formula.{Formula}
+use Rattle.term_trees.specs.declared.term.Formula.TheVariants as formula
+use Rattle.term_trees.specs.Meaning.{Numbers, modulo, value_here, value, holds}
+use Rattle.term_trees.specs.Terms.{is_low_width, is_sext_pair}
+use Rattle.term_trees.proofs.Truths.{both}
 use Rattle.std.specs.Prelude.{if◌then◌else◌}
 use Rattle.std.specs.Int.Signed.{le_z_yes}
 use Rattle.std.proofs.lemmas.Float.{T_from_true}

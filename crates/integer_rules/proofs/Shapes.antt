@@ -3,15 +3,15 @@ use Rattle.std.proofs.Common.{◌≡◌, ℕ, ℤ, Bool, ◌&&◌, ◌==◌, ref
 use Rattle.std.specs.Ordering.{int_eq}
 use Rattle.wasm_values.specs.declared.number.NumOp.{NumOp}
 use Rattle.wasm_values.specs.contracts.number.NumOpPartialEq.TheImpl as operator
-use Rattle.term_logic.specs.declared.term.Term.{Term, roll-Term, fold-roll-Term}
-use Rattle.term_logic.specs.declared.term.Term.TheOpen as layer
-use Rattle.term_logic.specs.declared.term.Term.TheOpen.{Term-F}
-use Rattle.term_logic.specs.declared.term.Term.TheVariants as term
-use Rattle.term_logic.specs.declared.term.Formula.{Formula, roll-Formula, fold-roll-Formula}
-use Rattle.term_logic.specs.declared.term.Formula.TheOpen as open_form
-use Rattle.term_logic.specs.declared.term.Formula.TheVariants as formula
-use Rattle.term_logic.specs.Views.{num_of, sum_of, difference_of, product_of, one_of, two_of, low_of, sext_of, sgn_of, eq_of, le_of, lt_of, not_of, and_of, or_of}
-use Rattle.term_logic.specs.Same.{passes, same_here, same, same_formula_here, same_formula}
+use Rattle.term_trees.specs.declared.term.Term.{Term, roll-Term, fold-roll-Term}
+use Rattle.term_trees.specs.declared.term.Term.TheOpen as layer
+use Rattle.term_trees.specs.declared.term.Term.TheOpen.{Term-F}
+use Rattle.term_trees.specs.declared.term.Term.TheVariants as term
+use Rattle.term_trees.specs.declared.term.Formula.{Formula, roll-Formula, fold-roll-Formula}
+use Rattle.term_trees.specs.declared.term.Formula.TheOpen as open_form
+use Rattle.term_trees.specs.declared.term.Formula.TheVariants as formula
+use Rattle.term_trees.specs.Views.{num_of, sum_of, difference_of, product_of, one_of, two_of, low_of, sext_of, sgn_of, eq_of, le_of, lt_of, not_of, and_of, or_of}
+use Rattle.term_trees.specs.Same.{passes, same_here, same, same_formula_here, same_formula}
 
 module _ (t : Term) where
   pub same-num : (k : ℤ) → same (term.Num k) t ≡ passes (num_of t) (λ m. int_eq k m)

@@ -12,14 +12,14 @@ use Rattle.wasm_values.specs.declared.number.IntOp.{IntOp}
 use Rattle.wasm_values.specs.declared.number.IntOp.TheVariants as op
 use Rattle.wasm_values.specs.declared.number.NumOp.{NumOp}
 use Rattle.wasm_values.specs.Operators.{width_of}
-use Rattle.term_logic.specs.declared.term.Term.{Term}
-use Rattle.term_logic.specs.declared.term.Term.TheVariants as term
-use Rattle.term_logic.specs.declared.term.Formula.{Formula}
-use Rattle.term_logic.specs.declared.term.Formula.TheVariants as formula
-use Rattle.term_logic.specs.Same.{passes, same_formula}
-use Rattle.term_logic.specs.Terms.{is_low_width, is_sext_pair}
-use Rattle.term_logic.specs.Views.{num_here, num_of, one_here, one_of, two_here, two_of, low_here, low_of, sext_here, sext_of, sgn_here, sgn_of, eq_here, eq_of, le_here, le_of, lt_here, lt_of, and_here, and_of, or_here, or_of}
-use Rattle.term_logic.proofs.Sameness.{same_formula-refl}
+use Rattle.term_trees.specs.declared.term.Term.{Term}
+use Rattle.term_trees.specs.declared.term.Term.TheVariants as term
+use Rattle.term_trees.specs.declared.term.Formula.{Formula}
+use Rattle.term_trees.specs.declared.term.Formula.TheVariants as formula
+use Rattle.term_trees.specs.Same.{passes, same_formula}
+use Rattle.term_trees.specs.Terms.{is_low_width, is_sext_pair}
+use Rattle.term_trees.specs.Views.{num_here, num_of, one_here, one_of, two_here, two_of, low_here, low_of, sext_here, sext_of, sgn_here, sgn_of, eq_here, eq_of, le_here, le_of, lt_here, lt_of, and_here, and_of, or_here, or_of}
+use Rattle.term_trees.proofs.Sameness.{same_formula-refl}
 use Rattle.integer_rules.specs.declared.rule.IntegerRule.TheVariants as rule
 use Rattle.integer_rules.specs.Rows.{Row, operator, at_least, at_most, remainder_bounds, choice, range_row, add_row, addwrap_row, sub_row, subwrap_row, mul_row, divu_row, divs_row, unsigned_claim, signed_claim, test_row, zero_row, tests_row, sgn_row, shift_as, shift_row, mask_row, changed, changed_row, low_row, sext_row}
 use Rattle.integer_rules.specs.Fits.{sized, applied, left_of, right_of, first_of, last_of, equated, test_in, remainder_in, width_with, is_among, exponent, limit_of, same_formulas, fits_row, fits_zero, fits_compared, fits_changed, fits_low, fits_sext, fits}

@@ -11,13 +11,13 @@ use Rattle.wasm_values.specs.declared.number.IntOp.{IntOp}
 use Rattle.wasm_values.specs.declared.number.NumOp.{NumOp}
 use Rattle.wasm_values.specs.declared.number.NumOp.TheVariants.{W32, W64}
 use Rattle.wasm_values.specs.Operators.{num_width, num_unary, num_binary, unary, signed, sign_extended, width_of, truth}
-use Rattle.term_logic.specs.declared.term.Term.{Term, fold-roll-Term}
-use Rattle.term_logic.specs.declared.term.Term.TheOpen as layer
-use Rattle.term_logic.specs.declared.term.Term.TheVariants as term
-use Rattle.term_logic.specs.declared.term.Formula.{Formula, fold-roll-Formula}
-use Rattle.term_logic.specs.declared.term.Formula.TheOpen as open_form
-use Rattle.term_logic.specs.declared.term.Formula.TheVariants as formula
-use Rattle.term_logic.specs.Meaning.{Numbers, modulo, value_here, value, holds_here, holds}
+use Rattle.term_trees.specs.declared.term.Term.{Term, fold-roll-Term}
+use Rattle.term_trees.specs.declared.term.Term.TheOpen as layer
+use Rattle.term_trees.specs.declared.term.Term.TheVariants as term
+use Rattle.term_trees.specs.declared.term.Formula.{Formula, fold-roll-Formula}
+use Rattle.term_trees.specs.declared.term.Formula.TheOpen as open_form
+use Rattle.term_trees.specs.declared.term.Formula.TheVariants as formula
+use Rattle.term_trees.specs.Meaning.{Numbers, modulo, value_here, value, holds_here, holds}
 use Rattle.integer_rules.specs.Rows.{operator, at_least, at_most, choice}
 use Rattle.integer_rules.proofs.Operations.{given}
 

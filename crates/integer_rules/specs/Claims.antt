@@ -1,10 +1,10 @@
 -- The trees that claims over a table stand for.
 use Rattle.std.specs.Prelude.{ℕ, ◌<◌, List}
 use Rattle.std.specs.List.{All}
-use Rattle.term_logic.specs.declared.term.Term.{Term}
-use Rattle.term_logic.specs.declared.term.Term.TheVariants as term
-use Rattle.term_logic.specs.declared.term.Formula.{Formula}
-use Rattle.term_logic.specs.declared.term.Formula.TheVariants as formula
+use Rattle.term_trees.specs.declared.term.Term.{Term}
+use Rattle.term_trees.specs.declared.term.Term.TheVariants as term
+use Rattle.term_trees.specs.declared.term.Formula.{Formula}
+use Rattle.term_trees.specs.declared.term.Formula.TheVariants as formula
 use Rattle.term_logic.specs.Table.{tree_at}
 use Rattle.wasm_values.specs.declared.number.IntOp.TheVariants.{DivU, RemU}
 use Rattle.integer_rules.specs.Rows.{operator}

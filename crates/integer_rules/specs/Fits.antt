@@ -9,15 +9,15 @@ use Rattle.wasm_values.specs.declared.number.IntOp.TheVariants as op
 use Rattle.wasm_values.specs.declared.number.NumOp.{NumOp}
 use Rattle.wasm_values.specs.declared.number.NumOp.TheVariants.{W32, W64, Wrap, ExtendS, ExtendU}
 use Rattle.wasm_values.specs.Operators.{width_of, is_test, result_type}
-use Rattle.term_logic.specs.declared.term.Term.{Term, Term-F, out-Term}
-use Rattle.term_logic.specs.declared.term.Term.TheOpen as layer
-use Rattle.term_logic.specs.declared.term.Term.TheVariants as term
-use Rattle.term_logic.specs.declared.term.Formula.{Formula}
-use Rattle.term_logic.specs.declared.term.Formula.TheVariants as formula
-use Rattle.term_logic.specs.Meaning.{modulo}
-use Rattle.term_logic.specs.Same.{passes, same_formula}
-use Rattle.term_logic.specs.Terms.{is_low_width, is_sext_pair}
-use Rattle.term_logic.specs.Views.{num_of, one_of, two_of, low_of, sext_of, sgn_of, eq_of, le_of, lt_of, and_of, or_of}
+use Rattle.term_trees.specs.declared.term.Term.{Term, Term-F, out-Term}
+use Rattle.term_trees.specs.declared.term.Term.TheOpen as layer
+use Rattle.term_trees.specs.declared.term.Term.TheVariants as term
+use Rattle.term_trees.specs.declared.term.Formula.{Formula}
+use Rattle.term_trees.specs.declared.term.Formula.TheVariants as formula
+use Rattle.term_trees.specs.Meaning.{modulo}
+use Rattle.term_trees.specs.Same.{passes, same_formula}
+use Rattle.term_trees.specs.Terms.{is_low_width, is_sext_pair}
+use Rattle.term_trees.specs.Views.{num_of, one_of, two_of, low_of, sext_of, sgn_of, eq_of, le_of, lt_of, and_of, or_of}
 use Rattle.integer_rules.specs.declared.rule.IntegerRule.{IntegerRule}
 use Rattle.integer_rules.specs.declared.rule.IntegerRule.TheVariants as rule
 use Rattle.integer_rules.specs.Rows.{Row, greatest, add_row, addwrap_row, sub_row, subwrap_row, mul_row, divu_row, divs_row, unsigned_claim, signed_claim, test_row, zero_row, tests_row, sgn_row, range_row, limit, shift_as, shift_row, mask_row, changed, changed_row, low_row, sext_row}

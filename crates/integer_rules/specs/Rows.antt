@@ -8,11 +8,11 @@ use Rattle.wasm_values.specs.declared.number.IntOp.TheVariants as op
 use Rattle.wasm_values.specs.declared.number.NumOp.{NumOp}
 use Rattle.wasm_values.specs.declared.number.NumOp.TheVariants.{W32, W64, Wrap, ExtendS, ExtendU}
 use Rattle.wasm_values.specs.Operators.{width_of, is_test}
-use Rattle.term_logic.specs.declared.term.Term.{Term}
-use Rattle.term_logic.specs.declared.term.Term.TheVariants as term
-use Rattle.term_logic.specs.declared.term.Formula.{Formula}
-use Rattle.term_logic.specs.declared.term.Formula.TheVariants as formula
-use Rattle.term_logic.specs.Meaning.{modulo}
+use Rattle.term_trees.specs.declared.term.Term.{Term}
+use Rattle.term_trees.specs.declared.term.Term.TheVariants as term
+use Rattle.term_trees.specs.declared.term.Formula.{Formula}
+use Rattle.term_trees.specs.declared.term.Formula.TheVariants as formula
+use Rattle.term_trees.specs.Meaning.{modulo}
 
 -- A row at its width and terms: the premises, in the order of the references, and the conclusion.
 pub record Row : Type 0 where

@@ -1,8 +1,8 @@
 -- What the rules keep.
 use Rattle.std.specs.Prelude.{◌≡◌, true, List, IsTrue}
 use Rattle.std.specs.List.{All}
-use Rattle.term_logic.specs.declared.term.Formula.{Formula}
-use Rattle.term_logic.specs.Meaning.{Numbers, holds}
+use Rattle.term_trees.specs.declared.term.Formula.{Formula}
+use Rattle.term_trees.specs.Meaning.{Numbers, holds}
 use Rattle.integer_rules.specs.declared.rule.IntegerRule.{IntegerRule}
 use Rattle.integer_rules.specs.Rows.{Row}
 use Rattle.integer_rules.specs.Fits.{fits}

@@ -2,7 +2,7 @@ ghost use Rattle.std.specs.Prelude.{◌≡◌, ◌<◌, ◌≤◌, map, length};
 ghost use Rattle.std.specs.List.{All};
 ghost use Rattle.term_logic.specs.Formulas.{formula_bound, formula_of};
 ghost use Rattle.term_logic.specs.Table.{tree_at};
-ghost use Rattle.term_logic.specs.Same.{same_formula};
+ghost use Rattle.term_trees.specs.Same.{same_formula};
 ghost use Rattle.integer_rules.specs.Rows.{divs_row};
 ghost use Rattle.integer_rules.specs.Fits.{fits_add, fits_addwrap, fits_sub, fits_subwrap, fits_mul, fits_divu, fits_divs};
 

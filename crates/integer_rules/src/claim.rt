@@ -1,10 +1,10 @@
 ghost use Rattle.std.specs.Prelude.{◌≡◌, ◌<◌, ◌≤◌, pos, map, length};
 ghost use Rattle.std.specs.List.{All};
-ghost use Rattle.term_logic.specs.declared.term.Term.TheVariants as term;
-ghost use Rattle.term_logic.specs.declared.term.Formula.TheVariants as formula;
+ghost use Rattle.term_trees.specs.declared.term.Term.TheVariants as term;
+ghost use Rattle.term_trees.specs.declared.term.Formula.TheVariants as formula;
 ghost use Rattle.term_logic.specs.Table.{tree_at};
 ghost use Rattle.term_logic.specs.Formulas.{formula_bound, formula_of};
-ghost use Rattle.term_logic.specs.Same.{same, same_formula};
+ghost use Rattle.term_trees.specs.Same.{same, same_formula};
 ghost use Rattle.integer_rules.specs.Claims.{side_tree, claim_formula, SideWithin, ClaimWithin};
 ghost use Rattle.wasm_values.specs.declared.number.IntOp.TheVariants.{DivU};
 ghost use Rattle.integer_rules.specs.Rows.{operator, choice, remainder_bounds, divu_row};

@@ -1,6 +1,6 @@
 ghost use Rattle.std.specs.Prelude.{◌≡◌, ◌-◌, ◌^◌, ◌<◌, ◌≤◌, pos, ◌≤ℤ◌, IfSome};
 ghost use Rattle.wasm_values.specs.Operators.{width_of};
-ghost use Rattle.term_logic.specs.Meaning.{modulo};
+ghost use Rattle.term_trees.specs.Meaning.{modulo};
 ghost use Rattle.integer_rules.specs.Rows.{operator, greatest, modulus, half, greatest_signed, limit, limited, shift_as};
 ghost use Rattle.integer_rules.specs.Fits.{width_with, exponent};
 

@@ -4,7 +4,7 @@ ghost use Rattle.term_logic.specs.Formulas.{formula_bound, formula_of};
 ghost use Rattle.std.specs.Prelude.{◌<◌, IfSome};
 ghost use Rattle.std.specs.Option.{option_map};
 ghost use Rattle.term_logic.specs.Table.{tree_at};
-ghost use Rattle.term_logic.specs.Terms.{is_low_width, is_sext_pair};
+ghost use Rattle.term_trees.specs.Terms.{is_low_width, is_sext_pair};
 ghost use Rattle.integer_rules.specs.Rows.{changed};
 ghost use Rattle.integer_rules.specs.Claims.{side_tree, SideWithin};
 ghost use Rattle.integer_rules.specs.Fits.{fits_changed, fits_low, fits_sext, fits_widen};

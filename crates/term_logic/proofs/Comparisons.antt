@@ -1,15 +1,15 @@
 -- How a formula over a table is compared, by its form.
 use Rattle.std.proofs.Common.{◌≡◌, ℕ, Bool, ◌&&◌, List, sym, ap, ◌∙◌}
-use Rattle.term_logic.specs.declared.term.Term.{Term}
-use Rattle.term_logic.specs.declared.term.Formula.{Formula, fold-roll-Formula}
-use Rattle.term_logic.specs.declared.term.Formula.TheOpen as layer
-use Rattle.term_logic.specs.declared.term.Formula.TheVariants as tree
+use Rattle.term_trees.specs.declared.term.Term.{Term}
+use Rattle.term_trees.specs.declared.term.Formula.{Formula, fold-roll-Formula}
+use Rattle.term_trees.specs.declared.term.Formula.TheOpen as layer
+use Rattle.term_trees.specs.declared.term.Formula.TheVariants as tree
 use Rattle.term_logic.specs.declared.formula.IdFormula.{IdFormula}
 use Rattle.term_logic.specs.declared.formula.IdFormula.TheVariants as form
 use Rattle.term_logic.specs.Table.{tree_at}
 use Rattle.term_logic.specs.Formulas.{formula_of}
-use Rattle.term_logic.specs.Views.{is_true, is_false, eq_of, le_of, lt_of, not_of, and_of, or_of, imp_of}
-use Rattle.term_logic.specs.Same.{passes, same, same_formula_here, same_formula}
+use Rattle.term_trees.specs.Views.{is_true, is_false, eq_of, le_of, lt_of, not_of, and_of, or_of, imp_of}
+use Rattle.term_trees.specs.Same.{passes, same, same_formula_here, same_formula}
 use Rattle.term_logic.proofs.Formulas.{formula_of-true, formula_of-false, formula_of-eq, formula_of-le, formula_of-lt, formula_of-not, formula_of-and, formula_of-or, formula_of-imp}
 
 module _ (ts : List Term) (f g : IdFormula) where

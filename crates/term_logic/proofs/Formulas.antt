@@ -3,13 +3,13 @@ use Rattle.std.proofs.Common.{◌≡◌, ℕ, ◌<◌, ◌≤◌, List, [], ◌�
 use Rattle.std.proofs.lemmas.List.Elements.{All-head, All-tail}
 use Rattle.std.specs.List.{All}
 use Rattle.std.specs.Option.{option_map}
-use Rattle.term_logic.specs.declared.term.Term.{Term}
-use Rattle.term_logic.specs.declared.term.Formula.{Formula, roll-Formula, out-Formula, out-roll-Formula}
-use Rattle.term_logic.specs.declared.term.Formula.TheOpen.{Formula-F}
-use Rattle.term_logic.specs.declared.term.Formula.TheOpen as tree
+use Rattle.term_trees.specs.declared.term.Term.{Term}
+use Rattle.term_trees.specs.declared.term.Formula.{Formula, roll-Formula, out-Formula, out-roll-Formula}
+use Rattle.term_trees.specs.declared.term.Formula.TheOpen.{Formula-F}
+use Rattle.term_trees.specs.declared.term.Formula.TheOpen as tree
 use Rattle.term_logic.specs.declared.formula.IdFormula.{IdFormula, roll-IdFormula, out-IdFormula, roll-out-IdFormula, map-IdFormula, fold-roll-IdFormula, ind-IdFormula}
 use Rattle.term_logic.specs.declared.formula.IdFormula.TheOpen.{IdFormula-F, True, False, Eq, Le, Lt, Not, And, Or, Imp}
-use Rattle.term_logic.specs.declared.term.Formula.TheVariants as tree_form
+use Rattle.term_trees.specs.declared.term.Formula.TheVariants as tree_form
 use Rattle.term_logic.specs.declared.formula.IdFormula.TheVariants as form
 use Rattle.term_logic.specs.declared.formula.IdFormula.TheVariants.{rolls-True, rolls-False, rolls-Eq, rolls-Le, rolls-Lt, rolls-Not, rolls-And, rolls-Or, rolls-Imp, outs-True, outs-False, outs-Eq, outs-Le, outs-Lt, outs-Not, outs-And, outs-Or, outs-Imp}
 use Rattle.term_logic.specs.declared.leaves.LeafIds.{LeafIds}

@@ -9,11 +9,11 @@ use Rattle.std.specs.Map.{keys_of, values_of}
 use Rattle.std.specs.Cmp.{IsEquivalence}
 use Rattle.indexmap.specs.IndexMap.{IndexMap, keys, values, get, insert_entry}
 use Rattle.indexmap.proofs.CallerLemmas.{insert_entry-new}
-use Rattle.term_logic.specs.declared.term.Term.{Term}
+use Rattle.term_trees.specs.declared.term.Term.{Term}
 use Rattle.term_logic.specs.declared.table.TermCell.{TermCell}
 use Rattle.term_logic.specs.contracts.table.TermCellPartialEq.TheImpl as cell_eq
 use Rattle.term_logic.specs.contracts.table.TermCellEq.TheImpl.Laws as cell_laws
-use Rattle.term_logic.specs.Terms.{node_count}
+use Rattle.term_trees.specs.Terms.{node_count}
 use Rattle.term_logic.specs.Table.{CellWithin, no_cell, tree_at, tree_here, trees, cell_at, cell_nodes, well_formed_cell, IsTable}
 use Rattle.term_logic.specs.Extends.{Extends}
 use Rattle.term_logic.proofs.Formulas.{extended}

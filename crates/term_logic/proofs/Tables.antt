@@ -3,9 +3,9 @@ use Rattle.std.proofs.Common.{◌≡◌, ℕ, true, ◌+◌, ◌<◌, ◌≤◌,
 use Rattle.std.proofs.lemmas.List.{get_or_append_left, get_or_default}
 use Rattle.std.proofs.lemmas.Option.{get_or_from_slice_get}
 use Rattle.std.proofs.Math.Seq.{get_or-append_seam}
-use Rattle.term_logic.specs.declared.term.Term.{Term}
+use Rattle.term_trees.specs.declared.term.Term.{Term}
 use Rattle.term_logic.specs.declared.table.TermCell.{TermCell}
-use Rattle.term_logic.specs.Terms.{node_count, well_formed}
+use Rattle.term_trees.specs.Terms.{node_count, well_formed}
 use Rattle.term_logic.specs.Table.{CellWithin, no_term, tree_at, tree_here, trees, no_cell, cell_at, well_formed_cell, IsTable}
 use Rattle.term_logic.proofs.Trees.{trees_after-push, trees_after-at, length-trees_after, tree_here-one, CellWithin-more, well_formed_tree_here}
 

@@ -2,17 +2,17 @@
 use Rattle.std.proofs.Common.{◌≡◌, ℕ, Bool, true, zero, suc, ◌+◌, ◌<◌, ◌≤◌, List, [], ◌∷◌, ◌++◌, length, length-append, refl, sym, ap, ◌∙◌, arith}
 use Rattle.std.proofs.lemmas.List.{get_or_append_left}
 use Rattle.std.proofs.Math.Seq.{get_or-append_seam}
-use Rattle.term_logic.specs.declared.term.Term.{Term, roll-Term, out-Term, out-roll-Term, map-Term, fold-Term, fold-roll-Term, the_lemmas}
-use Rattle.term_logic.specs.declared.term.Term.TheOpen.{Term-F}
-use Rattle.term_logic.specs.declared.term.Term.TheOpen as layer
-use Rattle.term_logic.specs.declared.term.Term.TheVariants as term
-use Rattle.term_logic.specs.declared.term.Term.TheVariants.{rolls-Num, rolls-Var, rolls-Own, rolls-At, rolls-Add, rolls-Sub, rolls-Mul, rolls-One, rolls-Two, rolls-Low, rolls-Sext, rolls-Sgn}
-use Rattle.term_logic.specs.declared.term.Place.{Place}
+use Rattle.term_trees.specs.declared.term.Term.{Term, roll-Term, out-Term, out-roll-Term, map-Term, fold-Term, fold-roll-Term, the_lemmas}
+use Rattle.term_trees.specs.declared.term.Term.TheOpen.{Term-F}
+use Rattle.term_trees.specs.declared.term.Term.TheOpen as layer
+use Rattle.term_trees.specs.declared.term.Term.TheVariants as term
+use Rattle.term_trees.specs.declared.term.Term.TheVariants.{rolls-Num, rolls-Var, rolls-Own, rolls-At, rolls-Add, rolls-Sub, rolls-Mul, rolls-One, rolls-Two, rolls-Low, rolls-Sext, rolls-Sgn}
+use Rattle.term_trees.specs.declared.term.Place.{Place}
 use Rattle.wasm_values.specs.declared.number.NumOp.{NumOp}
 use Rattle.std.specs.Prelude.{ℤ}
 use Rattle.term_logic.specs.declared.table.TermCell.{TermCell}
 use Rattle.term_logic.specs.declared.table.TermCell.TheVariants.{Num, Var, Own, At, Add, Sub, Mul, One, Two, Low, Sext, Sgn}
-use Rattle.term_logic.specs.Terms.{nodes_here, node_count, well_formed_here, well_formed}
+use Rattle.term_trees.specs.Terms.{nodes_here, node_count, well_formed_here, well_formed}
 use Rattle.term_logic.specs.Table.{cell_layer, CellWithin, no_term, tree_at, tree_here, trees_after, cell_at, cell_nodes, well_formed_cell, AllApart}
 
 -- a cell that is added last stands for its tree over the trees before it

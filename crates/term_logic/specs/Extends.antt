@@ -1,7 +1,7 @@
 -- What a table keeps while it grows.
 use Rattle.std.specs.Prelude.{◌≡◌, ℕ, ◌<◌, ◌≤◌, List, length, map}
 use Rattle.std.specs.List.{All}
-use Rattle.term_logic.specs.declared.term.Term.{Term}
+use Rattle.term_trees.specs.declared.term.Term.{Term}
 use Rattle.term_logic.specs.declared.formula.IdFormula.{IdFormula}
 use Rattle.term_logic.specs.declared.leaves.LeafIds.{LeafIds}
 use Rattle.term_logic.specs.Table.{tree_at}

@@ -1,12 +1,5 @@
 pub mod Extends
 pub mod Formulas
-pub mod Ground
 pub mod Leaves
 pub mod Linear
-pub mod Meaning
-pub mod Normal
-pub mod Same
 pub mod Table
-pub mod Terms
-pub mod Views
-pub mod formers

@@ -1,9 +1,9 @@
 -- The trees that the cells of a table stand for.
 use Rattle.std.specs.Prelude.{◌≡◌, ℕ, ◌<◌, ◌≤◌, pos, Bool, true, List, [], ◌∷◌, ◌++◌, length, slice_index_or}
-use Rattle.term_logic.specs.declared.term.Term.{Term, roll-Term, map-Term}
-use Rattle.term_logic.specs.Terms.{nodes_here, node_count, well_formed_here, well_formed}
-use Rattle.term_logic.specs.declared.term.Term.TheOpen.{Term-F}
-use Rattle.term_logic.specs.declared.term.Term.TheOpen as layer
+use Rattle.term_trees.specs.declared.term.Term.{Term, roll-Term, map-Term}
+use Rattle.term_trees.specs.Terms.{nodes_here, node_count, well_formed_here, well_formed}
+use Rattle.term_trees.specs.declared.term.Term.TheOpen.{Term-F}
+use Rattle.term_trees.specs.declared.term.Term.TheOpen as layer
 use Rattle.term_logic.specs.declared.table.TermCell.{TermCell}
 use Rattle.term_logic.specs.declared.table.TermCell.TheVariants.{Num, Var, Own, At, Add, Sub, Mul, One, Two, Low, Sext, Sgn}
 

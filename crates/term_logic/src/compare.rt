@@ -1,13 +1,14 @@
 ghost use Rattle.std.specs.Prelude.{◌≡◌, ◌↔◌, ◌<◌, ◌≤◌, ◌+◌, ◌&&◌, length, IsTrue};
 ghost use Rattle.term_logic.specs.Table.{tree_at};
 ghost use Rattle.term_logic.specs.Formulas.{formula_bound, formula_of};
-ghost use Rattle.term_logic.specs.Same.{same, same_formula};
-ghost use Rattle.term_logic.specs.Leaves.{LeavesWithin, leaves_of, replaced, replaced_formula};
+ghost use Rattle.term_trees.specs.Same.{same, same_formula};
+ghost use Rattle.term_trees.specs.Leaves.{replaced, replaced_formula};
+ghost use Rattle.term_logic.specs.Leaves.{LeavesWithin, leaves_of};
 
 use crate::formula::IdFormula;
 use crate::leaves::LeafIds;
 use crate::table::{TermId, TermTable};
-use crate::term::{Formula, Term};
+use term_trees::{Formula, Term};
 
 impl TermTable {
     /// Whether the term at a position is the tree, once its leaves are replaced.

@@ -2,7 +2,7 @@ ghost use Rattle.std.specs.Prelude.{◌≡◌, ◌<◌, ◌≤◌, length, IfSom
 ghost use Rattle.std.specs.Option.{option_map};
 ghost use Rattle.term_logic.specs.Table.{tree_at};
 ghost use Rattle.term_logic.specs.Formulas.{formula_bound, formula_of};
-ghost use Rattle.term_logic.specs.Views.{is_true, is_false, eq_of, le_of, lt_of, not_of, and_of, or_of, imp_of};
+ghost use Rattle.term_trees.specs.Views.{is_true, is_false, eq_of, le_of, lt_of, not_of, and_of, or_of, imp_of};
 
 use crate::formula::IdFormula;
 use crate::table::{TermId, TermTable};

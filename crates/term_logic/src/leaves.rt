@@ -3,7 +3,7 @@ ghost use Rattle.std.specs.List.{All};
 ghost use Rattle.term_logic.specs.Leaves.{place_id};
 
 use crate::table::TermId;
-use crate::term::Place;
+use term_trees::Place;
 use wasm_values::ValType;
 
 /// The terms of a table that stand for the leaves of a term. A leaf past the end of its list has none.

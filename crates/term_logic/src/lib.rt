@@ -1,37 +1,23 @@
-//! Terms and formulas over whole numbers, and a table that keeps each term once.
+//! A table that keeps each term once, and formulas and linear forms over it.
 #![tactic(auto)]
 
-mod boxed;
 mod compare;
-mod copy;
-mod count;
-mod evaluate;
-pub mod forms;
 mod formula;
 mod formula_view;
-mod laws;
+mod id_forms;
 mod leaves;
-mod linear;
-mod normalize;
 mod put;
-mod reduce;
 mod replace;
-mod same;
 mod table;
-mod term;
-mod term_view;
 mod view;
 
-pub use boxed::Boxed;
-pub use count::nodes;
-pub use evaluate::ground;
 pub use formula::IdFormula;
-pub use laws::{ground_under_any_numbers, normal_form_has_the_value, replacing_keeps_values};
 pub use leaves::LeafIds;
-pub use normalize::normal;
-pub use same::same_term;
 pub use table::{TermCell, TermId, TermTable};
-pub use term::{Formula, Place, Term};
+pub use term_trees::{
+    Boxed, Formula, Linear, Place, Term, Way, forms as forms, ground, ground_under_any_numbers,
+    nodes, normal, normal_form_has_the_value, replacing_keeps_values,
+};
 
 #[cfg(test)]
 mod tests;

@@ -1,12 +1,11 @@
 ghost use Rattle.std.specs.Prelude.{◌≡◌, ◌+◌, ◌<◌, ◌≤◌, ◌&&◌, length, IfOk, IsTrue};
-ghost use Rattle.term_logic.specs.Terms.{node_count, well_formed};
+ghost use Rattle.term_trees.specs.Terms.{node_count, well_formed};
 ghost use Rattle.term_logic.specs.Table.{tree_at};
 ghost use Rattle.term_logic.specs.Extends.{Extends};
 
-use crate::boxed::Boxed;
 use crate::formula::IdFormula;
 use crate::table::{TermCell, TermId, TermTable};
-use crate::term::{Formula, Term};
+use term_trees::{Boxed, Formula, Term};
 use wasm_values::OutOfMemory;
 
 impl TermTable {
@@ -76,7 +75,8 @@ impl TermTable {
 }
 
 impl TermTable {
-    ghost use Rattle.term_logic.specs.Formulas.{formula_nodes, formula_bound, formula_of, well_formed_formula};
+    ghost use Rattle.term_trees.specs.Formulas.{formula_nodes, well_formed_formula};
+    ghost use Rattle.term_logic.specs.Formulas.{formula_bound, formula_of};
 
     #[cycle(put_formulas)]
     fn put_two_formulas(

@@ -1,14 +1,14 @@
 ghost use Rattle.std.specs.Prelude.{◌≡◌, ◌+◌, ◌<◌, ◌≤◌, ◌&&◌, length, min, IfOk, IsTrue};
-ghost use Rattle.term_logic.specs.Terms.{node_count, well_formed};
+ghost use Rattle.term_trees.specs.Terms.{node_count, well_formed};
 ghost use Rattle.term_logic.specs.Table.{tree_at};
 ghost use Rattle.term_logic.specs.Extends.{Extends};
-ghost use Rattle.term_logic.specs.Leaves.{LeavesWithin, leaves_of, replaced, replaced_formula};
+ghost use Rattle.term_trees.specs.Leaves.{replaced, replaced_formula};
+ghost use Rattle.term_logic.specs.Leaves.{LeavesWithin, leaves_of};
 
-use crate::boxed::Boxed;
 use crate::formula::IdFormula;
 use crate::leaves::LeafIds;
 use crate::table::{TermCell, TermId, TermTable};
-use crate::term::{Formula, Term};
+use term_trees::{Boxed, Formula, Term};
 use wasm_values::OutOfMemory;
 
 impl TermTable {
@@ -123,7 +123,8 @@ impl TermTable {
 }
 
 impl TermTable {
-    ghost use Rattle.term_logic.specs.Formulas.{formula_nodes, formula_bound, formula_of, well_formed_formula};
+    ghost use Rattle.term_trees.specs.Formulas.{formula_nodes, well_formed_formula};
+    ghost use Rattle.term_logic.specs.Formulas.{formula_bound, formula_of};
 
     /// The nodes of the formula once its leaves are replaced, or the last `usize` where there are more.
     pub fn replaced_formula_nodes(&self, f: &Formula, leaves: &LeafIds<'_>) -> usize

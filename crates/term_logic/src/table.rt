@@ -1,8 +1,7 @@
-use crate::boxed::Boxed;
-use crate::term::{Place, Term};
 use indexmap::IndexMap;
 use std::alloc::Global;
 use std::marker::Model;
+use term_trees::{Boxed, Place, Term};
 use wasm_values::{NumOp, OutOfMemory};
 
 /// The position of a term in a table.
@@ -50,9 +49,9 @@ impl Model for TermTable {
     ghost use Rattle.std.specs.Prelude.{List};
     ghost use Rattle.std.specs.Coded.{coded_list};
     ghost use Rattle.indexmap.specs.IndexMap.{keys, values};
-    ghost use Rattle.term_logic.specs.declared.term.Term.{Term};
+    ghost use Rattle.term_trees.specs.declared.term.Term.{Term};
     ghost use Rattle.term_logic.specs.Table.{trees, IsTable};
-    ghost use Rattle.term_logic.specs.contracts.term.Term as term;
+    ghost use Rattle.term_trees.specs.contracts.term.Term as term;
 
     ghost Value = { List Term };
 
@@ -65,10 +64,10 @@ impl Model for TermTable {
 
 impl TermTable {
     ghost use Rattle.std.specs.Prelude.{◌≡◌, ◌↔◌, ℕ, [], ◌+◌, ◌<◌, ◌≤◌, length, IsTrue, IfOk, OnErr};
-    ghost use Rattle.term_logic.specs.Terms.{node_count, well_formed};
-    ghost use Rattle.term_logic.specs.declared.term.Term.{Term, out-Term, map-Term};
+    ghost use Rattle.term_trees.specs.Terms.{node_count, well_formed};
+    ghost use Rattle.term_trees.specs.declared.term.Term.{Term, out-Term, map-Term};
     ghost use Rattle.term_logic.specs.Table.{cell_layer, cell_nodes, tree_at, tree_here, well_formed_cell, CellWithin};
-    ghost use Rattle.term_logic.specs.Same.{same};
+    ghost use Rattle.term_trees.specs.Same.{same};
     ghost use Rattle.term_logic.specs.Extends.{Extends};
 
     pub fn new(alloc: Global) -> TermTable

@@ -1,10 +1,10 @@
 ghost use Rattle.std.specs.Prelude.{◌≡◌, ◌<◌, length, IfSome};
 ghost use Rattle.std.specs.Option.{option_map};
 ghost use Rattle.term_logic.specs.Table.{tree_at};
-ghost use Rattle.term_logic.specs.Views.{num_of, var_of, own_of, place_of, sum_of, difference_of, product_of, one_of, two_of, low_of, sext_of, sgn_of};
+ghost use Rattle.term_trees.specs.Views.{num_of, var_of, own_of, place_of, sum_of, difference_of, product_of, one_of, two_of, low_of, sext_of, sgn_of};
 
 use crate::table::{TermCell, TermId, TermTable};
-use crate::term::Place;
+use term_trees::Place;
 use wasm_values::NumOp;
 
 /// What the term at a position is made of, by its outermost form.

@@ -1,7 +1,7 @@
 use Rattle.std.proofs.Common.{rules, ◌≡◌, Bor, List, map, Some, ap, ◌∙◌}
 use Rattle.term_logic.specs.declared.formula.IdFormula.{IdFormula}
 use Rattle.term_logic.specs.Formulas.{formula_of}
-use Rattle.term_logic.specs.Same.{passes}
+use Rattle.term_trees.specs.Same.{passes}
 use Rattle.equality_rules.specs.Linear.{is_linear}
 use Rattle.bitvector_rules.specs.Facts.{premises, hyps_of, earlier_of}
 use Rattle.bitvector_rules.proofs.equality.fits_linear.Goals as goal

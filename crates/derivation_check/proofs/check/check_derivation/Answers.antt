@@ -1,7 +1,7 @@
 use Rattle.std.proofs.Common.{◌∙◌, sym, ap, map, []}
 use Rattle.std.proofs.lemmas.List.{append-nil}
 use Rattle.term_logic.specs.Formulas.{formula_of}
-use Rattle.term_logic.specs.Same.{passes, same_formula}
+use Rattle.term_trees.specs.Same.{passes, same_formula}
 use Rattle.bitvector_rules.specs.Goals.{last_formula}
 use Rattle.derivation_check.specs.Derivations.{good_steps}
 use Rattle.derivation_check.specs.Facts.{hyps_at, earlier_at}

@@ -1,5 +1,5 @@
 use Rattle.std.proofs.Common.{◌+◌, ◌*◌}
-use Rattle.term_logic.specs.Terms.{node_count}
+use Rattle.term_trees.specs.Terms.{node_count}
 use Rattle.term_logic.proofs.table.TermTable.+put.Given as goal
 
 abbrev pub decreases-put_two : goal.decreases-put_two

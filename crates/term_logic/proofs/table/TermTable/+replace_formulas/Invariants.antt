@@ -1,5 +1,5 @@
 use Rattle.std.proofs.Common.{◌+◌, ◌*◌}
-use Rattle.term_logic.specs.Formulas.{formula_nodes}
+use Rattle.term_trees.specs.Formulas.{formula_nodes}
 use Rattle.term_logic.proofs.table.TermTable.+replace_formulas.Given as goal
 
 abbrev pub decreases-put_two_replaced_formulas : goal.decreases-put_two_replaced_formulas

@@ -1,6 +1,6 @@
 use Rattle.std.proofs.Common.{length, arith, ap, ◌<◌, ◌∙◌, sym, ◌≡◌, slice_index_or}
 use Rattle.indexmap.specs.IndexMap.{keys}
-use Rattle.term_logic.specs.declared.term.Term.{out-Term}
+use Rattle.term_trees.specs.declared.term.Term.{out-Term}
 use Rattle.term_logic.proofs.Trees.{out-tree_here}
 use Rattle.term_logic.proofs.Tables.{seen-within, seen-cell, seen-earlier, seen-sound, seen-well_formed}
 use Rattle.term_logic.proofs.table.TermTable.cell.Goals as goal

@@ -1,4 +1,4 @@
-use Rattle.term_logic.proofs.Sameness.{same-is}
+use Rattle.term_trees.proofs.Sameness.{same-is}
 use Rattle.term_logic.proofs.table.TermTable.is_replaced.Goals as goal
 
 pub returns-clause-same : goal.returns-clause-same

@@ -1,4 +1,4 @@
-use Rattle.term_logic.proofs.Sameness.{same_formula-is}
+use Rattle.term_trees.proofs.Sameness.{same_formula-is}
 use Rattle.term_logic.proofs.table.TermTable.is_replaced_formula.Goals as goal
 
 pub returns-clause-same : goal.returns-clause-same

@@ -1,9 +1,0 @@
-use Rattle.std.proofs.Common.{◌+◌, ◌*◌}
-use Rattle.term_logic.specs.Formulas.{formula_nodes}
-use Rattle.term_logic.proofs.evaluate.+truth.Given as goal
-
-abbrev pub decreases-two_truths : goal.decreases-two_truths
-decreases-two_truths l = 2 * (formula_nodes l.f.now + formula_nodes l.g.now) + 1
-
-abbrev pub decreases-ground : goal.decreases-ground
-decreases-ground l = 2 * formula_nodes l.f.now

@@ -1,5 +1,0 @@
-use Rattle.term_logic.proofs.NormalValue.{normal-value}
-use Rattle.term_logic.proofs.laws.normal_form_has_the_value.Goals as goal
-
-pub returns : goal.returns
-returns c n t f = normal-value n t f

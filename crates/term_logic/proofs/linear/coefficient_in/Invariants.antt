@@ -1,6 +1,0 @@
-use Rattle.std.proofs.Common.{◌≡◌, drop}
-use Rattle.term_logic.specs.Linear.{shown, coefficient_in}
-use Rattle.term_logic.proofs.linear.coefficient_in.Given as goal
-
-abbrev pub invariant-loop-atom : goal.invariant-loop-atom
-invariant-loop-atom l = coefficient_in (shown (drop l.atom-index l.parts)) l.t ≡ coefficient_in (shown l.parts) l.t

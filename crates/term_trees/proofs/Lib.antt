@@ -1,0 +1,15 @@
+pub mod Equalities
+pub mod Truths
+pub mod Sameness
+pub mod Subterms
+pub mod Grounded
+pub mod GroundTruth
+pub mod LinearLists
+pub mod AtomLists
+pub mod LinearForms
+pub mod NormalForms
+pub mod Rings
+pub mod Replacing
+pub mod NormalValue
+pub mod NormalSound
+pub mod GroundLaws

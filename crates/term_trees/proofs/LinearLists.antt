@@ -1,0 +1,121 @@
+-- Lists of parts that are checked one after another.
+use Rattle.std.proofs.Common.{◌≡◌, ℕ, suc, ℤ, pos, ◌+◌, ◌<◌, Bool, true, false, not, List, [], ◌∷◌, ◌++◌, map, drop, length, get_or, Option, Some, None, refl, sym, ap, subst, ◌∙◌, append_assoc, add-one, drop-cons}
+use Rattle.std.specs.Prelude.{filter, option_map, option_and_then, if◌then◌else◌}
+use Rattle.std.proofs.lemmas.List.{map-append}
+use Rattle.std.proofs.lemmas.List.Elements.{All-append, All-nil, All-cons}
+use Rattle.std.proofs.lemmas.Iterator.Adapters.{option_map_id}
+use Rattle.term_trees.specs.declared.term.Term.{Term}
+use Rattle.term_trees.specs.Normal.{is_low}
+use Rattle.term_trees.specs.declared.linear.Way.{Way}
+use Rattle.term_trees.specs.Linear.{Parts, shown, PartsWithin, coefficient_in, occurs_in, applied, limited, limited_parts, kept_parts, fresh_parts, joined}
+
+-- parts one after another are checked one after another
+pub limited_parts-append : (ps qs : List (Term × ℤ)) → limited_parts (ps ++ qs) ≡ option_and_then (λ xs. option_map (λ ys. xs ++ ys) (limited_parts qs)) (limited_parts ps)
+limited_parts-append [] qs = sym (option_map_id (limited_parts qs))
+limited_parts-append (p ∷ ps) qs =
+    ap (λ o. if is_low p.1 then option_map (λ xs. p ∷ xs) o else None) (limited_parts-append ps qs)
+    ∙ step (is_low p.1) (limited_parts ps) (limited_parts qs)
+  where
+    inner : (xs : List (Term × ℤ)) (o : Option (List (Term × ℤ))) → option_map (λ zs. p ∷ zs) (option_map (λ ys. xs ++ ys) o) ≡ option_map (λ ys. (p ∷ xs) ++ ys) o
+    inner xs None = refl
+    inner xs (Some ys) = refl
+
+    step : (low : Bool) (o q : Option (List (Term × ℤ))) → (if low then option_map (λ xs. p ∷ xs) (option_and_then (λ xs. option_map (λ ys. xs ++ ys) q) o) else None)
+        ≡ option_and_then (λ xs. option_map (λ ys. xs ++ ys) q) (if low then option_map (λ xs. p ∷ xs) o else None)
+    step false o q = refl
+    step true None q = refl
+    step true (Some xs) q = inner xs q
+
+-- ---- a list of parts that grows
+
+-- the parts that are there, and then the rest, where that is low
+abbrev pub gathered : List (Term × ℤ) → List (Term × ℤ) → Option (List (Term × ℤ))
+gathered ps qs = option_map (λ rs. ps ++ rs) (limited_parts qs)
+
+-- a low part goes over from the rest
+gathered_low : (ps qs : List (Term × ℤ)) (t : Term) (z c : ℤ) → Some c ≡ limited z → gathered (ps ++ ((t, c) ∷ [])) qs ≡ gathered ps ((t, z) ∷ qs)
+gathered_low ps qs t z c e = at (is_low z) (limited_parts qs) e
+  where
+    at : (b : Bool) (o : Option (List (Term × ℤ))) → Some c ≡ (if b then Some z else None)
+        → option_map (λ rs. (ps ++ ((t, c) ∷ [])) ++ rs) o ≡ option_map (λ rs. ps ++ rs) (if b then option_map (λ rs. (t, z) ∷ rs) o else None)
+    at false o e = cc
+    at true None e = refl
+    at true (Some rs) e = let is : c ≡ z = cc in ap Some (append_assoc ps ((t, c) ∷ []) rs ∙ ap (λ w. ps ++ ((t, w) ∷ rs)) is)
+
+-- a number that isn't low ends it
+gathered_high : (ps qs : List (Term × ℤ)) (t : Term) (z : ℤ) → None ≡ limited z → None ≡ gathered ps ((t, z) ∷ qs)
+gathered_high ps qs t z e = at (is_low z) (limited_parts qs) e
+  where
+    at : (b : Bool) (o : Option (List (Term × ℤ))) → None ≡ (if b then Some z else None) → None ≡ option_map (λ rs. ps ++ rs) (if b then option_map (λ rs. (t, z) ∷ rs) o else None)
+    at true o e = cc
+    at false o e = refl
+
+fresh_at : (w : Way) (ps : List (Term × ℤ)) (t : Term) (z : ℤ) (qs : List (Term × ℤ)) → occurs_in ps t ≡ false
+    → fresh_parts w ps ((t, z) ∷ qs) ≡ (t, applied w (pos 0) z) ∷ fresh_parts w ps qs
+fresh_at w ps t z qs e =
+    ap (λ b. map (λ q. (q.0, applied w (pos 0) q.1)) (if not b then (t, z) ∷ filter (λ q. not (occurs_in ps q.0)) qs else filter (λ q. not (occurs_in ps q.0)) qs)) e
+
+-- a part of known ones is known
+pub within_step : {X : Type 0} (Known : X → Type 0) (parts all : List (X × ℤ)) (i : ℕ) (p : X × ℤ) (c : ℤ) → i < length all → p ≡ get_or all i p
+    → PartsWithin Known all → PartsWithin Known parts → PartsWithin Known (parts ++ ((p.0, c) ∷ []))
+within_step {X} Known parts all i p c h is whole there =
+    All-append (λ (q : X × ℤ). Known q.0) parts ((p.0, c) ∷ []) there
+    (All-cons (λ (q : X × ℤ). Known q.0) (p.0, c) [] (subst (λ (q : X × ℤ). Known q.0) (sym is) (whole i p h)) (All-nil (λ (q : X × ℤ). Known q.0)))
+
+pub within_append : {X : Type 0} (Known : X → Type 0) (ps qs : List (X × ℤ)) → PartsWithin Known ps → PartsWithin Known qs → PartsWithin Known (ps ++ qs)
+within_append {X} Known ps qs left right = All-append (λ (q : X × ℤ). Known q.0) ps qs left right
+
+pub shown-append : {X : Type 0} (tree : X → Term) (ps qs : List (X × ℤ)) → shown tree (ps ++ qs) ≡ shown tree ps ++ shown tree qs
+shown-append {X} tree ps qs = map-append (λ (p : X × ℤ). (tree p.0, p.1)) ps qs
+
+module _ {X : Type 0} (tree : X → Term) (w : Way) where
+  shown-push : (parts : List (X × ℤ)) (x : X) (c : ℤ) → shown tree (parts ++ ((x, c) ∷ [])) ≡ shown tree parts ++ ((tree x, c) ∷ [])
+  shown-push parts x c = map-append (λ p. (tree p.0, p.1)) parts ((x, c) ∷ [])
+
+  dropped : (xs : List (X × ℤ)) (i : ℕ) (p : X × ℤ) → i < length xs → p ≡ get_or xs i p → drop i xs ≡ p ∷ drop (i + 1) xs
+  dropped xs i p h is = rw (add-one, drop-cons xs i p) (ap (λ q. q ∷ drop (suc i) xs) (sym is))
+
+  -- one of the first parts more
+  pub kept_step : (parts more first second : List (X × ℤ)) (i : ℕ) (p : X × ℤ) (c : ℤ) (whole : Option (List (Term × ℤ))) → i < length first → p ≡ get_or first i p
+      → Some c ≡ limited (applied w p.1 (coefficient_in (shown tree second) (tree p.0))) → more ≡ parts ++ ((p.0, c) ∷ [])
+      → gathered (shown tree parts) (kept_parts w (shown tree (drop i first)) (shown tree second)) ≡ whole
+      → gathered (shown tree more) (kept_parts w (shown tree (drop (i + 1) first)) (shown tree second)) ≡ whole
+  kept_step parts more first second i p c whole h is low pushed before =
+      let rest = kept_parts w (shown tree (drop (i + 1) first)) (shown tree second) in
+      ap (λ ps. gathered (shown tree ps) rest) pushed
+      ∙ ap (λ ps. gathered ps rest) (shown-push parts p.0 c)
+      ∙ gathered_low (shown tree parts) rest (tree p.0) (applied w p.1 (coefficient_in (shown tree second) (tree p.0))) c low
+      ∙ ap (λ xs. gathered (shown tree parts) (kept_parts w (shown tree xs) (shown tree second))) (sym (dropped first i p h is))
+      ∙ before
+
+  -- one of the first parts isn't low
+  pub kept_stop : (parts first second : List (X × ℤ)) (i : ℕ) (p : X × ℤ) (whole : Option (List (Term × ℤ))) → i < length first → p ≡ get_or first i p
+      → None ≡ limited (applied w p.1 (coefficient_in (shown tree second) (tree p.0)))
+      → gathered (shown tree parts) (kept_parts w (shown tree (drop i first)) (shown tree second)) ≡ whole → None ≡ whole
+  kept_stop parts first second i p whole h is high before =
+      let rest = kept_parts w (shown tree (drop (i + 1) first)) (shown tree second) in
+      gathered_high (shown tree parts) rest (tree p.0) (applied w p.1 (coefficient_in (shown tree second) (tree p.0))) high
+      ∙ ap (λ xs. gathered (shown tree parts) (kept_parts w (shown tree xs) (shown tree second))) (sym (dropped first i p h is))
+      ∙ before
+
+  -- one of the second parts more, whose term is none of the first
+  pub fresh_step : (parts more first second : List (X × ℤ)) (i : ℕ) (p : X × ℤ) (c : ℤ) (whole : Option (List (Term × ℤ))) → i < length second → p ≡ get_or second i p
+      → occurs_in (shown tree first) (tree p.0) ≡ false → Some c ≡ limited (applied w (pos 0) p.1) → more ≡ parts ++ ((p.0, c) ∷ [])
+      → gathered (shown tree parts) (fresh_parts w (shown tree first) (shown tree (drop i second))) ≡ whole
+      → gathered (shown tree more) (fresh_parts w (shown tree first) (shown tree (drop (i + 1) second))) ≡ whole
+  fresh_step parts more first second i p c whole h is out low pushed before =
+      let rest = shown tree (drop (i + 1) second) in
+      ap (λ ps. gathered (shown tree ps) (fresh_parts w (shown tree first) rest)) pushed
+      ∙ ap (λ ps. gathered ps (fresh_parts w (shown tree first) rest)) (shown-push parts p.0 c)
+      ∙ gathered_low (shown tree parts) (fresh_parts w (shown tree first) rest) (tree p.0) (applied w (pos 0) p.1) c low
+      ∙ sym (ap (gathered (shown tree parts)) (fresh_at w (shown tree first) (tree p.0) p.1 rest out))
+      ∙ ap (λ xs. gathered (shown tree parts) (fresh_parts w (shown tree first) (shown tree xs))) (sym (dropped second i p h is))
+      ∙ before
+
+-- what the code shows of two forms that are taken together
+module _ (w : Way) (f g : Parts) where
+  pub joined-some : (c : ℤ) (ps qs rs : List (Term × ℤ)) → Some c ≡ limited (applied w f.0 g.0) → Some ps ≡ limited_parts (kept_parts w f.1 g.1)
+      → Some qs ≡ limited_parts (fresh_parts w f.1 g.1) → rs ≡ ps ++ qs → Some (c, rs) ≡ joined w f g
+  joined-some c ps qs rs at kept fresh is =
+      ap (λ rs. Some (c, rs)) is
+      ∙ (λ j. option_and_then (λ c. option_and_then (λ ps. option_map (λ qs. (c, ps ++ qs)) (fresh j)) (kept j)) (at j))

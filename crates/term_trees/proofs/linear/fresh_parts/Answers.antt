@@ -1,0 +1,22 @@
+use Rattle.std.proofs.Common.{rules, ◌≡◌, pos, ◌∷◌, ◌++◌, [], Some, false, subst, sym}
+use Rattle.term_trees.specs.Linear.{shown, occurs_in, applied, limited, PartsWithin}
+use Rattle.term_trees.proofs.LinearLists.{fresh_step, within_step}
+use Rattle.term_trees.proofs.linear.fresh_parts.Goals as goal
+
+pub loop-atom-preserved : goal.loop-atom-preserved
+loop-atom-preserved g c =
+    let tree = g.A.Atoms.tree c.args.atoms.now in
+    let known = g.A.Atoms.Within c.args.atoms.now in
+    let item = c.loop-atom-item.result in
+    let low : Some c.in-Some.sum ≡ limited (applied c.args.way (pos 0) item.1) = search rules in
+    let out : occurs_in (shown tree c.args.first.now) (tree item.0) ≡ false = search rules in
+    let pushed : c.push.new.parts.items ≡ c.loop-atom.parts.items ++ ((item.0, c.in-Some.sum) ∷ []) = search rules in
+    record {
+      gathered =
+          fresh_step tree c.args.way c.loop-atom.parts.items _ c.args.first.now c.args.second.now c.loop-atom.atom-index item c.in-Some.sum _
+          c.loop-atom-test.true c.loop-atom-item.is out low pushed c.loop-atom.invariant.gathered;
+      within =
+          subst (PartsWithin known) (sym pushed)
+          (within_step known c.loop-atom.parts.items c.args.second.now c.loop-atom.atom-index item c.in-Some.sum c.loop-atom-test.true c.loop-atom-item.is
+          c.requires.second c.loop-atom.invariant.within);
+    }

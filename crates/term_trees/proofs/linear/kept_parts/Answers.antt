@@ -1,0 +1,28 @@
+use Rattle.std.proofs.Common.{rules, ◌≡◌, ◌∷◌, ◌++◌, [], Some, None, subst, sym}
+use Rattle.term_trees.specs.Linear.{shown, coefficient_in, applied, limited, PartsWithin}
+use Rattle.term_trees.proofs.LinearLists.{kept_step, kept_stop, within_step}
+use Rattle.term_trees.proofs.linear.kept_parts.Goals as goal
+
+pub returns-in_default-clause-parts : goal.returns-in_default-clause-parts
+returns-in_default-clause-parts g c =
+    let tree = g.A.Atoms.tree c.args.atoms.now in
+    let item = c.loop-atom-item.result in
+    let high : None ≡ limited (applied c.args.way item.1 (coefficient_in (shown tree c.args.second.now) (tree item.0))) = search rules in
+    kept_stop tree c.args.way c.loop-atom.parts.items c.args.first.now c.args.second.now c.loop-atom.atom-index item _ c.loop-atom-test.true c.loop-atom-item.is high c.loop-atom.invariant.gathered
+
+pub loop-atom-preserved : goal.loop-atom-preserved
+loop-atom-preserved g c =
+    let tree = g.A.Atoms.tree c.args.atoms.now in
+    let known = g.A.Atoms.Within c.args.atoms.now in
+    let item = c.loop-atom-item.result in
+    let low : Some c.in-Some.sum ≡ limited (applied c.args.way item.1 (coefficient_in (shown tree c.args.second.now) (tree item.0))) = search rules in
+    let pushed : c.push.new.parts.items ≡ c.loop-atom.parts.items ++ ((item.0, c.in-Some.sum) ∷ []) = search rules in
+    record {
+      gathered =
+          kept_step tree c.args.way c.loop-atom.parts.items _ c.args.first.now c.args.second.now c.loop-atom.atom-index item c.in-Some.sum _
+          c.loop-atom-test.true c.loop-atom-item.is low pushed c.loop-atom.invariant.gathered;
+      within =
+          subst (PartsWithin known) (sym pushed)
+          (within_step known c.loop-atom.parts.items c.args.first.now c.loop-atom.atom-index item c.in-Some.sum c.loop-atom-test.true c.loop-atom-item.is
+          c.requires.first c.loop-atom.invariant.within);
+    }

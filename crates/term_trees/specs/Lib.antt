@@ -1,0 +1,10 @@
+pub mod Formulas
+pub mod Ground
+pub mod Leaves
+pub mod Linear
+pub mod Meaning
+pub mod Normal
+pub mod Same
+pub mod Terms
+pub mod Views
+pub mod formers
