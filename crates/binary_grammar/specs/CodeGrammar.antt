@@ -17,20 +17,23 @@ use Rattle.binary_grammar.specs.Bounds.{copies}
 use Rattle.binary_grammar.specs.Numbers.{SpellsS32, SpellsS64}
 use Rattle.binary_grammar.specs.Grammar.{Spelling, Then, Done, Tagged, TheByte, SpellsNumber, Each, SpellsList, SpellsValueType, SpellsBlockType}
 
--- A constant: the number of its width that a signed number stands for (5.2.2).
+-- A constant of 32 bits: the number that an s32 stands for (5.2.2).
 unfoldable pub SpellsWord32 : Spelling ℕ
 SpellsWord32 at text n = (z : ℤ) × SpellsS32 text z × (n ≡ cast_unsigned w32 z)
 
+-- A constant of 64 bits: the number that an s64 stands for (5.2.2).
 unfoldable pub SpellsWord64 : Spelling ℕ
 SpellsWord64 at text n = (z : ℤ) × SpellsS64 text z × (n ≡ cast_unsigned w64 z)
 
+-- An instruction with one number: an index (5.4.1 and 5.4.3).
 abbrev pub WithIndex : (ℕ → Instr) → Spelling Instr
 WithIndex f = Then SpellsNumber (λ n. Done (f n))
 
--- Alignment and offset (5.4.6).
+-- An instruction with two numbers: alignment and offset (5.4.4).
 abbrev pub WithTwo : (ℕ → ℕ → Instr) → Spelling Instr
 WithTwo f = Then SpellsNumber (λ a. Then SpellsNumber (λ b. Done (f a b)))
 
+-- An instruction with a byte 0, as `memory.size` and `memory.grow` have (5.4.4).
 abbrev pub WithZero : Instr → Spelling Instr
 WithZero i = Then (TheByte 0) (λ z. Done i)
 
@@ -81,7 +84,7 @@ ItemOf op = Then (InstrOf op) (λ i. Done (item.One i))
 unfoldable pub SpellsItem : Spelling Flat
 SpellsItem = Tagged (λ b at text i. (op : Opcode) × (b ≡ code_of op) × ItemOf op at text i)
 
--- An expression: its items one after another, with its last end, and the place of each (5.4.9).
+-- An expression: its items one after another, with its last end, and the place of each (5.4.6).
 unfoldable pub SpellsExpression : Spelling (List Instr × List ℕ)
 SpellsExpression at text x = Each SpellsItem at text (flat_body x.0, x.1)
 
@@ -118,6 +121,7 @@ Sized P = Then SpellsNumber (λ n. OfLength n P)
 unfoldable pub SpellsBodyContents : Spelling Body
 SpellsBodyContents = Then SpellsLocals (λ ls. Then SpellsExpression (λ code. Done (record { locals = ls; code = code.0; places = code.1 })))
 
+-- A size, and a function's locals and code of that size (5.5.13).
 unfoldable pub SpellsBody : Spelling Body
 SpellsBody = Sized SpellsBodyContents
 
@@ -129,6 +133,7 @@ opened now (item.If t) = now + 1
 opened now item.End = now - 1
 opened now _ = now
 
+-- An item that begins a block comes only where fewer than so many blocks are open.
 abbrev pub MayOpen : ℕ → ℕ → Flat → Type 0
 MayOpen most now (item.Block t) = now < most
 MayOpen most now (item.Loop t) = now < most

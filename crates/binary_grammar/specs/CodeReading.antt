@@ -24,22 +24,27 @@ use Rattle.binary_grammar.specs.Reading.{◌>>=◌, Reader, place, then_at, done
 use Rattle.binary_grammar.specs.Bounds.{copies}
 use Rattle.binary_grammar.specs.TypeReading.{tag_at, value_type_at, block_type_at}
 
--- The bytes of a constant, as the number of its width that they stand for.
+-- A constant of 32 bits: the number that an s32 stands for (5.2.2).
 unfoldable pub word32_at : Reader ℕ
 word32_at end bytes = of_number end (place end bytes) (s32_at bytes) >>= λ x. Ok (cast_unsigned w32 x.0, x.1)
 
+-- A constant of 64 bits: the number that an s64 stands for (5.2.2).
 unfoldable pub word64_at : Reader ℕ
 word64_at end bytes = of_number end (place end bytes) (s64_at bytes) >>= λ x. Ok (cast_unsigned w64 x.0, x.1)
 
+-- an instruction without immediates
 abbrev pub without : Instr → Reader Instr
 without i = done_at i
 
+-- an instruction with one number
 abbrev pub with_index : (ℕ → Instr) → Reader Instr
 with_index f = then_at number_at (λ n. done_at (f n))
 
+-- an instruction with two numbers
 abbrev pub with_two : (ℕ → ℕ → Instr) → Reader Instr
 with_two f = then_at number_at (λ a. then_at number_at (λ b. done_at (f a b)))
 
+-- an instruction with a byte 0
 abbrev pub with_zero : Instr → Reader Instr
 with_zero i = then_at (tag_at 0) (λ z. done_at i)
 
@@ -92,11 +97,14 @@ op_at false full at Else end bytes = Err (Malformed at word.Byte)
 op_at turn full at End end bytes = Ok (item.End, bytes)
 op_at turn full at op end bytes = then_at (simple_at at op) (λ i. done_at (item.One i)) end bytes
 
+-- The rest of an item, by what its first byte means. A byte of floating-point instructions is a fault, and so is one of
+-- none.
 unfoldable pub kind_at : Bool → Bool → ℕ → Kind → Reader Flat
 kind_at turn full at (kind.Op op) end bytes = op_at turn full at op end bytes
 kind_at turn full at kind.Float end bytes = Err (Malformed at word.Float)
 kind_at turn full at kind.Unused end bytes = Err (Malformed at word.Byte)
 
+-- An item of flat code: the byte of its opcode, and what follows it (5.4).
 unfoldable pub item_at : Bool → Bool → Reader Flat
 item_at turn full = tagged_at (λ at b. kind_at turn full at (kind_of b))
 
@@ -147,6 +155,7 @@ runs_at most sum (suc n) end bytes = do
   more ← runs_at most (sum + run.0.0) n end run.1
   Ok (copies run.0.0 run.0.1 ++ more.0, more.1)
 
+-- A function's locals: a vector of runs (5.5.13). At most so many locals are declared.
 unfoldable pub locals_at : ℕ → Reader (List ValType)
 locals_at most = then_at number_at (λ n. runs_at most 0 n)
 

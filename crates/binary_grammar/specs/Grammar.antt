@@ -15,6 +15,7 @@ use Rattle.wasm_syntax.specs.declared.module.ExportKind.{ExportKind}
 use Rattle.wasm_syntax.specs.declared.module.ExportKind.TheVariants as export
 use Rattle.binary_grammar.specs.Numbers.{SpellsU32}
 
+-- A relation between the place where a text begins, the text, and a value that it spells.
 abbrev pub Spelling : Type 0 → Type 1
 Spelling A = ℕ → List ℕ → A → Type 0
 
@@ -95,6 +96,7 @@ unfoldable pub SpellsFlag : Spelling Bool
 SpellsFlag at text false = text ≡ 0 ∷ []
 SpellsFlag at text true = text ≡ 1 ∷ []
 
+-- The maximum of limits, which there is where the flag says so (5.3.4).
 unfoldable pub SpellsGreatest : Bool → Spelling (Option ℕ)
 SpellsGreatest false = Done None
 SpellsGreatest true = Then SpellsNumber (λ n. Done (Some n))
@@ -113,19 +115,21 @@ SpellsTableType = Then (TheByte 0x70) (λ tag. SpellsLimits)
 unfoldable pub SpellsGlobalType : Spelling GlobalType
 SpellsGlobalType = Then SpellsValueType (λ t. Then SpellsFlag (λ flag. Done (record { value = t; mutable = flag })))
 
--- What is imported: its kind's byte, and its description (5.5.5).
+-- The byte of the kind of what is imported (5.5.5).
 abbrev pub import_tag : ImportKind → ℕ
 import_tag (import.Func n) = 0
 import_tag (import.Table l) = 1
 import_tag (import.Memory l) = 2
 import_tag (import.Global g) = 3
 
+-- The description of what is imported: the number of a function's type, or the type of a table, memory or global (5.5.5).
 abbrev pub SpellsImported : Spelling ImportKind
 SpellsImported at text (import.Func n) = SpellsNumber at text n
 SpellsImported at text (import.Table l) = SpellsTableType at text l
 SpellsImported at text (import.Memory l) = SpellsLimits at text l
 SpellsImported at text (import.Global g) = SpellsGlobalType at text g
 
+-- What is imported: its kind's byte, and its description (5.5.5).
 unfoldable pub SpellsImportKind : Spelling ImportKind
 SpellsImportKind = Tagged (λ b at text k. (b ≡ import_tag k) × SpellsImported at text k)
 
@@ -135,19 +139,21 @@ SpellsImport =
     Then SpellsName (λ first. Then SpellsName (λ second. Then SpellsImportKind (λ kind.
     Done (record { «module» = first; name = second; kind = kind }))))
 
--- What is exported: its kind's byte, and its index (5.5.10).
+-- The byte of the kind of what is exported (5.5.10).
 abbrev pub export_tag : ExportKind → ℕ
 export_tag (export.Func n) = 0
 export_tag (export.Table n) = 1
 export_tag (export.Memory n) = 2
 export_tag (export.Global n) = 3
 
+-- The index of what is exported (5.5.10).
 abbrev pub export_index : ExportKind → ℕ
 export_index (export.Func n) = n
 export_index (export.Table n) = n
 export_index (export.Memory n) = n
 export_index (export.Global n) = n
 
+-- What is exported: its kind's byte, and its index (5.5.10).
 unfoldable pub SpellsExportKind : Spelling ExportKind
 SpellsExportKind = Tagged (λ b at text k. (b ≡ export_tag k) × SpellsNumber at text (export_index k))
 

@@ -84,47 +84,58 @@ abbrev pub given : {A : Type 0} → (Section → Option A) → A → List Sectio
 given kind none [] = none
 given kind none (s ∷ ss) = unwrap_or (kind s) (given kind none ss)
 
--- The kinds of sections that are not custom, and what one of each kind gives: its entries and their places (5.5.4 to 5.5.14).
+-- The kinds of sections that are not custom, each with what a section of it gives: its entries and their places. The first
+-- is that of types (5.5.4).
 abbrev pub type_section : Section → Option (List FuncType × List ℕ)
 type_section (section.Types es ps) = Some (es, ps)
 type_section _ = None
 
+-- the imports (5.5.5)
 abbrev pub import_section : Section → Option (List Import × List ℕ)
 import_section (section.Imports es ps) = Some (es, ps)
 import_section _ = None
 
+-- the types of functions, by their numbers (5.5.6)
 abbrev pub function_section : Section → Option (List ℕ × List ℕ)
 function_section (section.Funcs es ps) = Some (es, ps)
 function_section _ = None
 
+-- the tables (5.5.7)
 abbrev pub table_section : Section → Option (List Limits × List ℕ)
 table_section (section.Tables es ps) = Some (es, ps)
 table_section _ = None
 
+-- the memories (5.5.8)
 abbrev pub memory_section : Section → Option (List Limits × List ℕ)
 memory_section (section.Memories es ps) = Some (es, ps)
 memory_section _ = None
 
+-- the globals (5.5.9)
 abbrev pub global_section : Section → Option (List Global × List ℕ)
 global_section (section.Globals es ps) = Some (es, ps)
 global_section _ = None
 
+-- the exports (5.5.10)
 abbrev pub export_section : Section → Option (List Export × List ℕ)
 export_section (section.Exports es ps) = Some (es, ps)
 export_section _ = None
 
+-- the start function and its place (5.5.11)
 abbrev pub start_section : Section → Option (Option ℕ × ℕ)
 start_section (section.Start n p) = Some (Some n, p)
 start_section _ = None
 
+-- the element segments (5.5.12)
 abbrev pub element_section : Section → Option (List Elem × List ℕ)
 element_section (section.Elems es ps) = Some (es, ps)
 element_section _ = None
 
+-- the bodies, each of which has the places of its instructions (5.5.13)
 abbrev pub code_section : Section → Option (List Body)
 code_section (section.Bodies bs) = Some bs
 code_section _ = None
 
+-- the data segments (5.5.14)
 abbrev pub data_section : Section → Option (List Segment × List ℕ)
 data_section (section.Segments es ps) = Some (es, ps)
 data_section _ = None
@@ -180,33 +191,38 @@ pub record AreParts (sections : List Section) (m : Module) (k : Marks) : Type 0 
   pub code : k.code ≡ map (λ b. b.places) (given code_section [] sections)
   pub customs : m.customs ≡ customs_of 0 sections
 
--- A module begins with the magic and the version (5.5.15).
+-- A module begins with the magic (5.5.15).
 abbrev pub magic : List ℕ
 magic = 0x00 ∷ 0x61 ∷ 0x73 ∷ 0x6d ∷ []
 
+-- The version follows the magic (5.5.15).
 abbrev pub version : List ℕ
 version = 0x01 ∷ 0x00 ∷ 0x00 ∷ 0x00 ∷ []
 
 -- Bytes spell a module with its marks: they are the magic, the version and sections in their order, whose contents are the
--- parts of the module (5.5.15).
+-- parts of the module (5.5.15). This takes nothing from the reading functions.
 unfoldable pub Spells : List ℕ → Module → Marks → Type 0
 Spells bytes m k =
     (sections : List Section) × (rest : List ℕ) × (bytes ≡ magic ++ (version ++ rest)) × InTurn 8 rest sections × Rising 0 sections ×
     AreParts sections m k × (k.len ≡ length bytes)
 
--- The limits of parts of a module.
+-- A function type has at most so many parameters.
 abbrev pub FuncTypeWithin : Bounds → FuncType → Type 0
 FuncTypeWithin most t = length t.params ≤ most.params
 
+-- Of the expression of a global at most so many blocks are open at once.
 abbrev pub GlobalWithin : Bounds → Global → Type 0
 GlobalWithin most g = NestsAtMost most.nesting g.init
 
+-- The same of the offset of an element segment.
 abbrev pub ElemWithin : Bounds → Elem → Type 0
 ElemWithin most e = NestsAtMost most.nesting e.offset
 
+-- The same of the offset of a data segment.
 abbrev pub SegmentWithin : Bounds → Segment → Type 0
 SegmentWithin most s = NestsAtMost most.nesting s.offset
 
+-- A function declares at most so many locals, and of its body at most so many blocks are open at once.
 abbrev pub FuncWithin : Bounds → Func → Type 0
 FuncWithin most f = (length f.locals ≤ most.locals) × NestsAtMost most.nesting f.body
 

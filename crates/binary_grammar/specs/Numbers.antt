@@ -28,9 +28,11 @@ SpellsU32 text n = AreDigits text × (length text ≤ 5) × (base_128 text ≡ n
 abbrev pub SpellsSigned : Width → ℕ → List ℕ → ℤ → Type 0
 SpellsSigned w most text z = AreDigits text × (length text ≤ most) × (twos_complement (7 * length text) (base_128 text) ≡ z) × FitsSigned w z
 
+-- An s32 is spelled by at most 5 bytes.
 abbrev pub SpellsS32 : List ℕ → ℤ → Type 0
 SpellsS32 = SpellsSigned w32 5
 
+-- An s64 is spelled by at most 10 bytes.
 abbrev pub SpellsS64 : List ℕ → ℤ → Type 0
 SpellsS64 = SpellsSigned w64 10
 

@@ -10,21 +10,25 @@ use Rattle.wasm_values.specs.declared.limit.LimitWord.{LimitWord}
 use Rattle.std.specs.Str.{is_utf8}
 use Rattle.binary_grammar.specs.NumberReading.{u32_at}
 
+-- What comes after a success; a fault stands.
 infixl 10 ◌>>=◌
 abbrev pub ◌>>=◌ : {A B : Type 0} → Result A DecodeFault → (A → Result B DecodeFault) → Result B DecodeFault
 (Ok x) >>= f = f x
 (Err e) >>= f = Err e
 
--- What a function returned, seen by view, is what reading gives, unless memory ran out.
+-- A function failed as reading does, unless memory ran out.
 abbrev pub Fails : {Y : Type 0} → DecodeFault → Result Y DecodeFault → Type 0
 Fails OutOfMemory read = Unit {0}
 Fails (Malformed place word) read = read ≡ Err (Malformed place word)
 Fails (Limit place word) read = read ≡ Err (Limit place word)
 
+-- What a function returned, seen by view, is what reading gives, unless memory ran out.
 abbrev pub Gives : {X Y : Type 0} → (X → Y) → Result X DecodeFault → Result Y DecodeFault → Type 0
 Gives view (Ok x) read = read ≡ Ok (view x)
 Gives view (Err e) read = Fails e read
 
+-- How a value is read: from the place where a region ends and the bytes that are left, the value and what is left then, or
+-- a fault.
 abbrev pub Reader : Type 0 → Type 0
 Reader A = ℕ → List ℕ → Result (A × List ℕ) DecodeFault
 
@@ -32,10 +36,12 @@ Reader A = ℕ → List ℕ → Result (A × List ℕ) DecodeFault
 abbrev pub place : ℕ → List ℕ → ℕ
 place end bytes = end - length bytes
 
+-- The fault of a number that begins at a place: at the end of the region where that cuts it off, and else at its own place.
 abbrev pub number_fault_of : LebFault → ℕ → ℕ → DecodeFault
 number_fault_of leb.End at end = Malformed end End
 number_fault_of leb.Number at end = Malformed at Number
 
+-- what was read of a number, or its fault, with the place
 abbrev pub of_number : {A : Type 0} → ℕ → ℕ → Result (A × List ℕ) LebFault → Result (A × List ℕ) DecodeFault
 of_number end at (Ok x) = Ok x
 of_number end at (Err e) = Err (number_fault_of e at end)
@@ -48,9 +54,11 @@ then_at r s end bytes = r end bytes >>= λ x. s x.0 end x.1
 unfoldable pub done_at : {A : Type 0} → A → Reader A
 done_at x end bytes = Ok (x, bytes)
 
+-- A u32 (5.2.2).
 unfoldable pub number_at : Reader ℕ
 number_at end bytes = of_number end (place end bytes) (u32_at bytes)
 
+-- A byte (5.2.1).
 unfoldable pub byte_at : Reader ℕ
 byte_at end [] = Err (Malformed end End)
 byte_at end (b ∷ bs) = Ok (b, bs)
@@ -102,13 +110,14 @@ bytes_at = then_at number_at run_at
 abbrev pub text_of : List ℕ → ℕ → Result (List ℕ) DecodeFault
 text_of bytes at = if is_utf8 bytes then Ok bytes else Err (Malformed at Utf8)
 
--- A name: a length, and so many bytes in UTF-8.
+-- So many bytes in UTF-8.
 unfoldable pub text_at : ℕ → Reader (List ℕ)
 text_at n end bytes = do
   t ← run_at n end bytes
   name ← text_of t.0 (place end bytes)
   Ok (name, t.1)
 
+-- A name: a length, and so many bytes in UTF-8 (5.2.4).
 unfoldable pub name_at : Reader (List ℕ)
 name_at = then_at number_at text_at
 

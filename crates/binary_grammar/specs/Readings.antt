@@ -77,25 +77,32 @@ pub record Left : Type 0 where
 abbrev pub local : {A : Type 0} → Reader A → Left → Result (A × Left) DecodeFault
 local r left = r left.end left.bytes >>= λ x. Ok (x.0, record left { bytes = x.1 })
 
+-- A number that is at most so many; a greater one passes the limit.
 unfoldable pub few_at : ℕ → LimitWord → Reader ℕ
 few_at most w end bytes = number_at end bytes >>= λ n. if nat_lt most n.0 then Err (Limit (place end bytes) w) else Ok n
 
+-- A number that must be this one.
 unfoldable pub count_at : ℕ → Reader ℕ
 count_at declared end bytes = number_at end bytes >>= λ n. if n.0 == declared then Ok n else Err (Malformed (place end bytes) word.Count)
 
+-- How many locals a run has; with those before it they are at most so many.
 unfoldable pub run_count_at : ℕ → ℕ → Reader ℕ
 run_count_at most sum end bytes = number_at end bytes >>= λ n. if nat_lt most (sum + n.0) then Err (Limit (place end bytes) limit.Locals) else Ok n
 
+-- All bytes that are left of a region.
 abbrev pub rest_of_region : Reader (List ℕ)
 rest_of_region end bytes = Ok (bytes, [])
 
+-- The byte of the kind of an import or export, which stands at a place: 0 to 3.
 abbrev pub kind_byte_of : ℕ → ℕ → Result ℕ DecodeFault
 kind_byte_of at b = if nat_lt b 4 then Ok b else Err (Malformed at word.Byte)
 
+-- An opcode that begins a block, unless no block may.
 abbrev pub opening : Bool → ℕ → Opcode → Result Opcode DecodeFault
 opening true at o = Err (Limit at limit.Nesting)
 opening false at o = Ok o
 
+-- The opcode of `else`, where it may come.
 abbrev pub turning : Bool → ℕ → Result Opcode DecodeFault
 turning true at = Ok op.Else
 turning false at = Err (Malformed at word.Byte)
@@ -108,11 +115,13 @@ opcode_of turn full at op.If = opening full at op.If
 opcode_of turn full at op.Else = turning turn at
 opcode_of turn full at o = Ok o
 
+-- The opcode that a byte means, where it stands. A byte of floating-point instructions is a fault, and so is one of none.
 unfoldable pub kind_accepted : Bool → Bool → ℕ → Kind → Result Opcode DecodeFault
 kind_accepted turn full at (kind.Op o) = opcode_of turn full at o
 kind_accepted turn full at kind.Float = Err (Malformed at word.Float)
 kind_accepted turn full at kind.Unused = Err (Malformed at word.Byte)
 
+-- The id of the next section, or none at the end of the bytes.
 abbrev pub next_of : ℕ → ℕ → List ℕ → Result (Option ℕ × List ℕ) DecodeFault
 next_of last end [] = Ok (None, [])
 next_of last end (b ∷ bs) = id_at last end (b ∷ bs) >>= λ x. Ok (Some x.0, x.1)
@@ -162,6 +171,7 @@ pub record Item : Type 0 where
   pub start : ℕ
   pub len : ℕ
 
+-- the place of the first byte that is left
 abbrev pub place_of : Left → ℕ
 place_of left = place left.end left.bytes
 

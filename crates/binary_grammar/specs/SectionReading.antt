@@ -20,14 +20,17 @@ use Rattle.binary_grammar.specs.Reading.{◌>>=◌, Reader, place, then_at, done
 use Rattle.binary_grammar.specs.TypeReading.{func_type_at, limits_at, table_type_at, global_type_at, import_at, export_at}
 use Rattle.binary_grammar.specs.CodeReading.{instrs_at, body_at}
 
+-- A global (5.5.9). Of its expression at most so many blocks are open at once.
 unfoldable pub global_at : ℕ → Reader Global
 global_at nesting = then_at global_type_at (λ t. then_at (instrs_at nesting) (λ init. done_at (record { ty = t; init = init })))
 
+-- An element segment, likewise (5.5.12).
 unfoldable pub elem_at : ℕ → Reader Elem
 elem_at nesting =
     then_at number_at (λ table. then_at (instrs_at nesting) (λ offset. then_at (list_at number_at) (λ funcs.
     done_at (record { table = table; offset = offset; funcs = funcs }))))
 
+-- A data segment, likewise (5.5.14).
 unfoldable pub segment_at : ℕ → Reader Segment
 segment_at nesting =
     then_at number_at (λ memory. then_at (instrs_at nesting) (λ offset. then_at bytes_at (λ contents.
@@ -44,33 +47,43 @@ bodies_at most declared end bytes = do
   if n.0 == declared then (entries_at (body_at most.locals most.nesting) n.0 end n.1 >>= λ x. Ok (section.Bodies x.0.0, x.1))
       else Err (Malformed (place end bytes) word.Count)
 
+-- The types, at most so many (5.5.4).
 unfoldable pub types_at : Bounds → Reader Section
 types_at most = then_at (limited_at (func_type_at most.params) most.types limit.Types) (λ x. done_at (section.Types x.0 x.1))
 
+-- The imports, at most so many (5.5.5).
 unfoldable pub imports_at : Bounds → Reader Section
 imports_at most = then_at (limited_at import_at most.imports limit.Imports) (λ x. done_at (section.Imports x.0 x.1))
 
+-- The types of functions, by their numbers, at most so many (5.5.6).
 unfoldable pub funcs_at : Bounds → Reader Section
 funcs_at most = then_at (limited_at number_at most.functions limit.Functions) (λ x. done_at (section.Funcs x.0 x.1))
 
+-- The tables (5.5.7).
 unfoldable pub tables_at : Reader Section
 tables_at = then_at (vector_at table_type_at) (λ x. done_at (section.Tables x.0 x.1))
 
+-- The memories (5.5.8).
 unfoldable pub memories_at : Reader Section
 memories_at = then_at (vector_at limits_at) (λ x. done_at (section.Memories x.0 x.1))
 
+-- The globals, at most so many (5.5.9).
 unfoldable pub globals_at : Bounds → Reader Section
 globals_at most = then_at (limited_at (global_at most.nesting) most.globals limit.Globals) (λ x. done_at (section.Globals x.0 x.1))
 
+-- The exports (5.5.10).
 unfoldable pub exports_at : Reader Section
 exports_at = then_at (vector_at export_at) (λ x. done_at (section.Exports x.0 x.1))
 
+-- The start function, with its place (5.5.11).
 unfoldable pub start_at : Reader Section
 start_at end bytes = number_at end bytes >>= λ x. Ok (section.Start x.0 (place end bytes), x.1)
 
+-- The element segments (5.5.12).
 unfoldable pub elems_at : Bounds → Reader Section
 elems_at most = then_at (vector_at (elem_at most.nesting)) (λ x. done_at (section.Elems x.0 x.1))
 
+-- The data segments (5.5.14).
 unfoldable pub segments_at : Bounds → Reader Section
 segments_at most = then_at (vector_at (segment_at most.nesting)) (λ x. done_at (section.Segments x.0 x.1))
 
@@ -131,9 +144,11 @@ with_section d (section.Bodies bs) =
 with_section d (section.Segments es ps) =
     record d { «module» = record d.module { segments = es }; marks = record d.marks { segments = ps }; last = 11; after = after_of d.after 11 (length es) }
 
+-- a module with nothing in it
 abbrev pub no_module : Module
 no_module = record { types = []; imports = []; funcs = []; tables = []; memories = []; globals = []; exports = []; start = None; elems = []; segments = []; customs = [] }
 
+-- the marks of a module with nothing in it, before its length is known
 abbrev pub no_marks : Marks
 no_marks = record { len = 0; types = []; imports = []; funcs = []; tables = []; memories = []; globals = []; exports = []; start = 0; elems = []; segments = []; code = [] }
 
@@ -154,6 +169,7 @@ abbrev pub funcs_of : List ℕ → List Body → List Func
 funcs_of (t ∷ ts) (b ∷ bs) = record { ty = t; locals = b.locals; body = b.code } ∷ funcs_of ts bs
 funcs_of _ _ = []
 
+-- The places of the instructions of each body.
 abbrev pub places_of : List Body → List (List ℕ)
 places_of = map (λ b. b.places)
 
@@ -168,6 +184,7 @@ whole_module len d = record {
 unfoldable pub finished_at : ℕ → Draft → Result Decoded DecodeFault
 finished_at len d = if length d.bodies == length d.declared then Ok (whole_module len d) else Err (Malformed len word.Count)
 
+-- The magic and the version, with which a module begins (5.5.15).
 abbrev pub header : List ℕ
 header = 0x00 ∷ 0x61 ∷ 0x73 ∷ 0x6d ∷ 0x01 ∷ 0x00 ∷ 0x00 ∷ 0x00 ∷ []
 
@@ -177,6 +194,7 @@ magic_at [] end bytes = Ok bytes
 magic_at (h ∷ hs) end [] = Err (Malformed end word.End)
 magic_at (h ∷ hs) end (b ∷ bs) = if b == h then magic_at hs end bs else Err (Malformed (place end (b ∷ bs)) word.Magic)
 
+-- The bytes behind the header. Fewer bytes than a header has end too early, whatever they are.
 unfoldable pub header_at : ℕ → List ℕ → Result (List ℕ) DecodeFault
 header_at end bytes = if nat_lt (length bytes) 8 then Err (Malformed end word.End) else magic_at header end bytes
 

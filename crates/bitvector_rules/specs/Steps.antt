@@ -9,6 +9,7 @@ use Rattle.bitvector_rules.specs.declared.step.Step.{Step, Step-F, fold-Step}
 abbrev pub is_admissible_formula : Formula → Bool
 is_admissible_formula f = nat_le (formula_nodes f) 4096 && well_formed_formula f
 
+-- whether a step's formula is admissible, and all steps of its sub-derivations are
 abbrev pub admissible_here : Step-F Bool → Bool
 admissible_here s = is_admissible_formula s.formula && list_all (λ sub. list_all (λ b. b) sub) s.subs
 

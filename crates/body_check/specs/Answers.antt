@@ -8,7 +8,7 @@ use Rattle.wasm_typing.specs.declared.fault.ValidFault.TheVariants.{Invalid, Out
 use Rattle.body_check.specs.declared.scope.Scope.{Scope}
 use Rattle.wasm_typing.specs.Valid.{TypeValid, func_types_of, tables_of, memories_of, globals_of, imported_globals_of}
 
--- All is well exactly where the first holds; a fault is as the second says; or memory is wanting.
+-- Where all is well the first holds; a fault is as the second says; or memory is wanting.
 abbrev pub Answers : {A : Type 0} → (A → Type 0) → (ℕ → ValidWord → Type 0) → Result A ValidFault → Type 0
 Answers holds fails (Ok x) = holds x
 Answers holds fails (Err (Invalid at w)) = fails at w

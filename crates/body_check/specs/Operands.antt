@@ -22,6 +22,7 @@ StandsFor [] false ts = ts ≡ []
 StandsFor (k ∷ ks) dead [] = ⊥
 StandsFor (k ∷ ks) dead (t ∷ ts) = IsOfType k t × StandsFor ks dead ts
 
+-- The operands that the validator keeps, the topmost last, stand for these types, the topmost first.
 abbrev pub Are : Operands → Types → Type 0
 Are s ts = StandsFor (reverse s.items.items) s.dead ts
 
@@ -39,6 +40,7 @@ Advances P Q R =
 abbrev pub IsStuck : (P : Types → Type 0) → (R : Types → Types → Type 0) → Type 0
 IsStuck P R = (ins outs : Types) → P ins → R ins outs → ⊥
 
+-- From types of which P holds, R leads to exactly those of which Q holds; or it leads nowhere.
 abbrev pub Goes : Bool → (P Q : Types → Type 0) → (R : Types → Types → Type 0) → Type 0
 Goes true P Q R = Advances P Q R
 Goes false P Q R = IsStuck P R

@@ -19,6 +19,7 @@ use Rattle.body_check.specs.Operands.{Advances, IsStuck, Goes}
 abbrev pub context_in : Names → Context
 context_in n = context_of n.whole.now n.func.now
 
+-- What a body may name is what its module and its function give; the types of all functions exist.
 pub record AreNames (n : Names) : Type 0 where
   pub scope : IsScopeOf n.whole.now n.scope.now
   pub params : n.params.now ≡ (type_at n.whole.now.types n.func.now.ty).params

@@ -34,9 +34,11 @@ module _ (X : Type 0) (conclusion : X → Formula) (test : X → List Formula �
 abbrev pub Tested : Type 0
 Tested = Formula × (List Formula → List Formula → Bool)
 
+-- whether a step whose sub-derivations are tested is an instance: it fits its rule, and they reach what it has to show
 abbrev pub instance_here : Step-F Tested → List Formula → List Formula → Bool
 instance_here s hyps earlier = passes (step_goals hyps earlier s) (all_reach Tested (λ t. t.0) (λ t. t.1) (hyps ++ earlier) s.subs)
 
+-- a step as its conclusion and its test, which rests on those of the steps of its sub-derivations
 unfoldable pub tested : Step → Tested
 tested s = fold-Step Tested (λ l. (l.formula, instance_here l)) s
 
@@ -45,6 +47,7 @@ tested s = fold-Step Tested (λ l. (l.formula, instance_here l)) s
 abbrev pub is_instance : Step → List Formula → List Formula → Bool
 is_instance s = (tested s).1
 
+-- The step is an instance of its rule.
 abbrev pub Instance : List Formula → List Formula → Step → Type 0
 Instance hyps earlier s = IsTrue (is_instance s hyps earlier)
 
@@ -57,6 +60,7 @@ conclusion_of s = (out-Step s).formula
 abbrev pub derives : List Formula → Formula → List Step → Bool
 derives hyps goal steps = reach Step conclusion_of is_instance hyps goal steps
 
+-- The steps derive the goal from the hypotheses.
 abbrev pub Derives : List Formula → Formula → List Step → Type 0
 Derives hyps goal steps = IsTrue (derives hyps goal steps)
 

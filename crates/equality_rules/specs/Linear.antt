@@ -33,6 +33,7 @@ claimed_term f = first_of (option_map difference (eq_of f)) (first_of (option_ma
 abbrev pub concluded_term : Formula → Option Term
 concluded_term c = if is_false c then Some (term.Num (negsuc 0)) else claimed_term c
 
+-- Whether a formula is an equation.
 abbrev pub is_equation : Formula → Bool
 is_equation f = is_some (eq_of f)
 

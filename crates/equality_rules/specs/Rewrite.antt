@@ -14,6 +14,7 @@ use Rattle.term_logic.specs.Views.{is_true, is_false, eq_of, le_of, lt_of, not_o
 abbrev pub layer_becomes : Term → Term → Term → Term-F (Term → Bool) → Term → Bool
 layer_becomes a b t l u = (same t a && same u b) || same_here l u
 
+-- one layer as a term, beside the test which terms it becomes
 abbrev pub becomes_here : Term → Term → Term-F (Term × (Term → Bool)) → Term × (Term → Bool)
 becomes_here a b l =
     let t = roll-Term (map-Term (Term × (Term → Bool)) Term (λ p. p.0) l) in
@@ -23,6 +24,7 @@ becomes_here a b l =
 unfoldable pub becomes : Term → Term → Term → Term → Bool
 becomes a b t = (fold-Term (Term × (Term → Bool)) (becomes_here a b) t).1
 
+-- whether one layer becomes the formula f, from whether its parts become given formulas: f is built the same way
 abbrev pub formula_becomes_here : Term → Term → Formula-F (Formula → Bool) → Formula → Bool
 formula_becomes_here a b True f = is_true f
 formula_becomes_here a b False f = is_false f

@@ -31,6 +31,7 @@ list_of word parts = Open ∷ Word word ∷ (parts ++ Close ∷ [])
 abbrev pub list : {A : Type 0} → (A → List Lexeme) → List A → List Lexeme
 list spell xs = Open ∷ (flat_map spell xs ++ Close ∷ [])
 
+-- The list of nothing: `()`
 abbrev pub nothing : List Lexeme
 nothing = Open ∷ Close ∷ []
 
@@ -89,13 +90,16 @@ notes_parts a = list_of (codes "notes") (natural 1 ++ (assertion_parts a.invaria
 abbrev pub IsNatural : ℕ → Type 0
 IsNatural n = n < 2 ^ 32
 
+-- The number of a formula's global is in that range.
 abbrev pub IsNoteFormula : Formula → Type 0
 IsNoteFormula f = IsNatural f.global
 
+-- The number of a reference is in that range.
 abbrev pub IsNoteRef : Ref → Type 0
 IsNoteRef (ref.Hyp k) = IsNatural k
 IsNoteRef (ref.Earlier k) = IsNatural k
 
+-- The numbers of a step's formula and references are.
 pub record IsNoteStep (s : Step) : Type 0 where
   pub formula : IsNoteFormula s.formula
   pub refs : AllByRecursion IsNoteRef s.refs
@@ -104,18 +108,22 @@ pub record IsNoteStep (s : Step) : Type 0 where
 abbrev pub IsNoteMove : Move → Type 0
 IsNoteMove (move.Have f steps) = IsNoteFormula f × (1 ≤ length steps) × AllByRecursion IsNoteStep steps
 
+-- The numbers of the facts that a `with` names are.
 abbrev pub IsNoteWith : With → Type 0
 IsNoteWith w = AllByRecursion IsNatural w.facts
 
+-- The numbers of a `with` are, where there is one.
 abbrev pub IsNoteUse : Use → Type 0
 IsNoteUse use_.Nothing = Unit {0}
 IsNoteUse (use_.With w) = IsNoteWith w
 
+-- A note: its place is in that range, and its moves and its `with` are so.
 pub record IsNote (n : Note) : Type 0 where
   pub at : IsNatural n.at
   pub moves : AllByRecursion IsNoteMove n.moves
   pub used : IsNoteUse n.used
 
+-- The notes of a function: its number is in that range, and its notes are so.
 pub record IsFuncNotes (f : FuncNotes) : Type 0 where
   pub func : IsNatural f.func
   pub notes : AllByRecursion IsNote f.notes
@@ -124,6 +132,7 @@ pub record IsFuncNotes (f : FuncNotes) : Type 0 where
 abbrev pub moves_in : List Note → ℕ
 moves_in notes = sum_by (λ note. length note.moves) notes
 
+-- How many moves there are in the initial part and in all notes together.
 abbrev pub moves_of : Notes → ℕ
 moves_of a = length a.initial.moves + sum_by (λ func. moves_in func.notes) a.funcs
 

@@ -27,6 +27,7 @@ is_vector xs = nat_lt (length xs) (2 ^ 32)
 abbrev pub is_empty_type : FuncType → Bool
 is_empty_type ty = is_empty ty.params && is_empty ty.results
 
+-- Whether a value type is i32 (Core 2.3.1).
 abbrev pub is_i32 : ValType → Bool
 is_i32 type.I32 = true
 is_i32 type.I64 = false

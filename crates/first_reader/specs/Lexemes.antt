@@ -15,6 +15,7 @@ pub data Lexeme : Type 0 where
 abbrev pub is_white : ℕ → Bool
 is_white byte = byte == 32 || byte == 9 || byte == 10 || byte == 13
 
+-- Digits are `0` to `9`.
 abbrev pub is_digit : ℕ → Bool
 is_digit byte = nat_le 48 byte && nat_le byte 57
 
@@ -42,6 +43,7 @@ unfoldable pub numeral : List ℕ → Option ℤ
 numeral [] = None
 numeral (byte ∷ bytes) = if byte == 45 then magnitude bytes >>= negated else option_map pos (magnitude (byte ∷ bytes))
 
+-- A run as its number, where it spells one, and else as a word.
 abbrev pub number_or_word : Option ℤ → List ℕ → Lexeme
 number_or_word (Some z) run = Number z
 number_or_word None run = Word run

@@ -17,18 +17,22 @@ lexeme (token.Word w) = Word w.now
 abbrev pub is_break : ℕ → Bool
 is_break byte = is_white byte || (byte == 40 || byte == 41)
 
+-- a parenthesis that opens
 abbrev pub open_at : List Lexeme → Option (List Lexeme)
 open_at (Open ∷ rest) = Some rest
 open_at _ = None
 
+-- a parenthesis that closes
 abbrev pub close_at : List Lexeme → Option (List Lexeme)
 close_at (Close ∷ rest) = Some rest
 close_at _ = None
 
+-- this word
 abbrev pub word_at : List ℕ → List Lexeme → Option (List Lexeme)
 word_at w (Word v ∷ rest) = if bytes_eq v w then Some rest else None
 word_at w _ = None
 
+-- a number
 abbrev pub number_at : List Lexeme → Option (ℤ × List Lexeme)
 number_at (Number z ∷ rest) = Some (z, rest)
 number_at _ = None
@@ -38,6 +42,7 @@ abbrev pub u32_of : ℤ → Option ℕ
 u32_of (pos n) = if nat_lt n 4294967296 then Some n else None
 u32_of (negsuc n) = None
 
+-- a number of 32 bits that stands first
 unfoldable pub u32_at : List Lexeme → Option (ℕ × List Lexeme)
 u32_at parts = number_at parts >>= λ z. u32_of z.0 >>= λ n. Some (n, z.1)
 

@@ -26,18 +26,22 @@ abbrev pub opens : List Lexeme → Bool
 opens (Open ∷ rest) = true
 opens _ = false
 
+-- whether a parenthesis that closes stands first
 abbrev pub closes : List Lexeme → Bool
 closes (Close ∷ rest) = true
 closes _ = false
 
+-- whether a number stands first
 abbrev pub counts : List Lexeme → Bool
 counts (Number z ∷ rest) = true
 counts _ = false
 
+-- whether the head of a move stands first
 abbrev pub moves : List Lexeme → Bool
 moves (Open ∷ Word w ∷ rest) = bytes_eq w (codes "have")
 moves _ = false
 
+-- a formula: `(= (global K) NUMBER)`
 unfoldable pub formula_at : List Lexeme → Option (Formula × List Lexeme)
 formula_at parts = do
   inside ← head_at (codes "=") parts
@@ -48,6 +52,7 @@ formula_at parts = do
   rest ← close_at value.1
   Some (record { global = global.0; value = value.0 }, rest)
 
+-- the word of a rule: `hyp` or `eval`
 abbrev pub rule_at : List Lexeme → Option (Rule × List Lexeme)
 rule_at (Word w ∷ rest) = if bytes_eq w (codes "hyp") then Some (rule.Hyp, rest) else if bytes_eq w (codes "eval") then Some (rule.Eval, rest) else None
 rule_at _ = None
@@ -57,10 +62,12 @@ abbrev pub ref_word_at : List Lexeme → Option (Bool × List Lexeme)
 ref_word_at (Word w ∷ rest) = if bytes_eq w (codes "h") then Some (true, rest) else if bytes_eq w (codes "s") then Some (false, rest) else None
 ref_word_at _ = None
 
+-- the reference to a hypothesis, or else to an earlier step
 abbrev pub ref_of : Bool → ℕ → Ref
 ref_of true k = ref.Hyp k
 ref_of false k = ref.Earlier k
 
+-- a reference: `(h K)` or `(s K)`
 unfoldable pub ref_at : List Lexeme → Option (Ref × List Lexeme)
 ref_at parts = do
   inside ← open_at parts
@@ -69,6 +76,7 @@ ref_at parts = do
   rest ← close_at k.1
   Some (ref_of word.0 k.0, rest)
 
+-- a step: `(RULE FORMULA (REF*) ())`
 unfoldable pub step_at : List Lexeme → Option (Step × List Lexeme)
 step_at parts = do
   inside ← open_at parts
@@ -79,6 +87,7 @@ step_at parts = do
   rest ← close_at numbers
   Some (record { rule = rule.0; formula = formula.0; refs = refs.0 }, rest)
 
+-- a move, which has one step or more: `(have FORMULA STEP*)`
 unfoldable pub move_at : List Lexeme → Option (Move × List Lexeme)
 move_at parts = do
   inside ← head_at (codes "have") parts
@@ -87,6 +96,7 @@ move_at parts = do
   rest ← close_at steps.1
   if nat_lt 0 (length steps.0) then Some (move.Have formula.0 steps.0, rest) else None
 
+-- `(with () (K*) ())`
 unfoldable pub with_at : List Lexeme → Option (With × List Lexeme)
 with_at parts = do
   inside ← head_at (codes "with") parts
@@ -96,9 +106,11 @@ with_at parts = do
   rest ← close_at chunks
   Some (record { facts = facts.0 }, rest)
 
+-- a `with`, or nothing where the list ends
 unfoldable pub use_at : List Lexeme → Option (Use × List Lexeme)
 use_at parts = if closes parts then Some (use_.Nothing, parts) else (with_at parts >>= λ w. Some (use_.With w.0, w.1))
 
+-- a note: `(at I MOVE*)` or `(at I MOVE* WITH)`
 unfoldable pub note_at : List Lexeme → Option (Note × List Lexeme)
 note_at parts = do
   inside ← head_at (codes "at") parts
@@ -108,6 +120,7 @@ note_at parts = do
   rest ← close_at used.1
   Some (record { at = at.0; moves = moves.0; used = used.0 }, rest)
 
+-- the notes of a function: `(func K AT*)`
 unfoldable pub func_at : List Lexeme → Option (FuncNotes × List Lexeme)
 func_at parts = do
   inside ← head_at (codes "func") parts
@@ -120,6 +133,7 @@ func_at parts = do
 abbrev pub only_at : ℕ → List Lexeme → Option (List Lexeme)
 only_at n parts = u32_at parts >>= λ k. if k.0 == n then Some k.1 else None
 
+-- the invariant: `(assert 0 (FORMULA*) ())`
 unfoldable pub assertion_at : List Lexeme → Option (Assertion × List Lexeme)
 assertion_at parts = do
   inside ← head_at (codes "assert") parts
@@ -129,6 +143,7 @@ assertion_at parts = do
   rest ← close_at chunks
   Some (record { formulas = formulas.0 }, rest)
 
+-- the initial part: `(initial () (MOVE*) WITH)`
 unfoldable pub initial_at : List Lexeme → Option (Initial × List Lexeme)
 initial_at parts = do
   inside ← head_at (codes "initial") parts
@@ -138,10 +153,12 @@ initial_at parts = do
   rest ← close_at with.1
   Some (record { moves = moves.0; with = with.0 }, rest)
 
+-- what was read, where nothing stands behind it
 abbrev pub done : {A : Type 0} → A → List Lexeme → Option A
 done x [] = Some x
 done x (part ∷ parts) = None
 
+-- all notes, with nothing behind them: `(notes 1 ASSERT INITIAL FUNC*)`
 unfoldable pub notes_at : List Lexeme → Option Notes
 notes_at parts = do
   inside ← head_at (codes "notes") parts
@@ -157,14 +174,17 @@ unfoldable pub left_after : ℕ → List Note → Option ℕ
 left_after left [] = Some left
 left_after left (note ∷ notes) = if nat_lt left (length note.moves) then None else left_after (left - length note.moves) notes
 
+-- how many of so many moves are left after those of all these functions
 unfoldable pub left_after_all : ℕ → List FuncNotes → Option ℕ
 left_after_all left [] = Some left
 left_after_all left (func ∷ funcs) = left_after left func.notes >>= λ rest. left_after_all rest funcs
 
+-- whether the moves were no more than that
 abbrev pub is_left : Option ℕ → Bool
 is_left None = false
 is_left (Some n) = true
 
+-- whether notes have at most 1,000 moves
 abbrev pub has_few_moves : Notes → Bool
 has_few_moves a = if nat_lt 1000 (length a.initial.moves) then false else is_left (left_after_all (1000 - length a.initial.moves) a.funcs)
 

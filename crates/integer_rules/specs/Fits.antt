@@ -104,24 +104,31 @@ abbrev pub fits_range : List Formula → Formula → Bool
 fits_range premises c =
     passes (option_and_then le_of (first_of c)) (λ p. passes (limit_of p.1) (λ m. fits_row (range_row p.1 m) premises c))
 
+-- `add`, with the width and the operands on the left of the equation
 abbrev pub fits_add : List Formula → Formula → Bool
 fits_add premises c = passes (equated c) (λ x. fits_row (add_row x.0 x.2 x.3) premises c)
 
+-- `addwrap`, with the same
 abbrev pub fits_addwrap : List Formula → Formula → Bool
 fits_addwrap premises c = passes (equated c) (λ x. fits_row (addwrap_row x.0 x.2 x.3) premises c)
 
+-- `sub`, with the same
 abbrev pub fits_sub : List Formula → Formula → Bool
 fits_sub premises c = passes (equated c) (λ x. fits_row (sub_row x.0 x.2 x.3) premises c)
 
+-- `subwrap`, with the same
 abbrev pub fits_subwrap : List Formula → Formula → Bool
 fits_subwrap premises c = passes (equated c) (λ x. fits_row (subwrap_row x.0 x.2 x.3) premises c)
 
+-- `mul`, with the same
 abbrev pub fits_mul : List Formula → Formula → Bool
 fits_mul premises c = passes (equated c) (λ x. fits_row (mul_row x.0 x.2 x.3) premises c)
 
+-- `divu`, with the width and the operands of the remainder in the last part
 abbrev pub fits_divu : List Formula → Formula → Bool
 fits_divu premises c = passes (option_and_then applied (remainder_in c)) (λ x. fits_row (divu_row x.0 x.2 x.3) premises c)
 
+-- `divs`, with the width and the operands on the left of the first equation
 abbrev pub fits_divs : List Formula → Formula → Bool
 fits_divs premises c = passes (option_and_then equated (first_of c)) (λ x. fits_row (divs_row x.0 x.2 x.3) premises c)
 
@@ -134,21 +141,26 @@ abbrev pub fits_compared : Term → List Formula → Formula → Bool
 fits_compared t premises c =
     passes (applied t) (λ x. passes (unsigned_claim x.1 x.2 x.3) (λ f. fits_row (test_row x.0 x.1 x.2 x.3 f) premises c))
 
+-- `test`, with the test that the choice speaks of first
 abbrev pub fits_test : List Formula → Formula → Bool
 fits_test premises c = passes (test_in c) (λ t. fits_zero t premises c || fits_compared t premises c)
 
+-- `tests`, with the comparison that the choice speaks of first
 abbrev pub fits_tests : List Formula → Formula → Bool
 fits_tests premises c =
     passes (option_and_then applied (test_in c)) (λ x. passes (signed_claim x.1 (term.Sgn (width_of x.0) x.2) (term.Sgn (width_of x.0) x.3)) (λ f. fits_row (tests_row x.0 x.1 x.2 x.3 f) premises c))
 
+-- `sgn`, with the width and the term of the signed reading in the last part
 abbrev pub fits_sgn : List Formula → Formula → Bool
 fits_sgn premises c =
     passes (option_and_then sgn_of (option_and_then left_of (last_of c))) (λ x. passes (width_with x.0) (λ v. fits_row (sgn_row v x.1) premises c))
 
+-- `shift`, with the shift on the left of the equation, by a number that the width has
 abbrev pub fits_shift : List Formula → Formula → Bool
 fits_shift premises c =
     passes (equated c) (λ x. passes (shift_as x.1) (λ r. passes (num_of x.3) (λ k. is_among x.0 k && fits_row (shift_row x.0 x.1 r x.2 k) premises c)))
 
+-- `mask`, with the remainder on the right of the equation, by 2 to a k from 1 to one less than the bits of the width
 abbrev pub fits_mask : List Formula → Formula → Bool
 fits_mask premises c =
     passes (option_and_then applied (right_of c)) (λ x. passes (num_of x.3) (λ p. passes (exponent (width_of x.0 - 1) p) (λ k. fits_row (mask_row x.0 x.2 k) premises c)))
@@ -167,6 +179,7 @@ abbrev pub fits_sext : List Formula → Formula → Bool
 fits_sext premises c =
     passes (option_and_then sext_of (option_and_then left_of (last_of c))) (λ x. is_sext_pair x.0 x.1 && fits_row (sext_row x.0 x.1 x.2) premises c)
 
+-- `widen`: one of these three
 abbrev pub fits_widen : List Formula → Formula → Bool
 fits_widen premises c = fits_changed premises c || (fits_low premises c || fits_sext premises c)
 

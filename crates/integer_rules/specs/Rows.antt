@@ -217,6 +217,7 @@ changed ExtendU a = Some (term.Low 32 a)
 changed ExtendS a = Some (term.Sext 32 64 a)
 changed _ a = None
 
+-- A change of width, by the term t that it gives.
 abbrev pub changed_row : NumOp → Term → Term → Row
 changed_row o a t = record { premises = []; conclusion = formula.Eq (term.One o a) t }
 

@@ -53,6 +53,7 @@ abbrev pub between_text : ℕ → Option ℕ → List ℕ
 between_text least None = decimal least
 between_text least (Some greatest) = decimal least ++ 32 ∷ decimal greatest
 
+-- Limits: the least size, and the greatest one, if there is one.
 unfoldable pub limits_text : Limits → List ℕ
 limits_text l = between_text l.min l.max
 
@@ -123,19 +124,22 @@ code_text first places funcs = flat_map (λ e. func_code_text e.0 e.1.0 e.1.1) (
 unfoldable pub custom_line : Custom → List ℕ
 custom_line c = codes "custom: " ++ (quoted c.name ++ 32 ∷ (decimal (length c.bytes) ++ 10 ∷ []))
 
--- An import is of a function, a table, a memory or a global.
+-- An import is of a function.
 abbrev pub is_func : ImportKind → Bool
 is_func (import.Func n) = true
 is_func _ = false
 
+-- An import is of a table.
 abbrev pub is_table : ImportKind → Bool
 is_table (import.Table l) = true
 is_table _ = false
 
+-- An import is of a memory.
 abbrev pub is_memory : ImportKind → Bool
 is_memory (import.Memory l) = true
 is_memory _ = false
 
+-- An import is of a global.
 abbrev pub is_global : ImportKind → Bool
 is_global (import.Global g) = true
 is_global _ = false

@@ -12,6 +12,7 @@ use Rattle.term_logic.specs.Meaning.{Numbers, value, holds}
 abbrev pub no_numbers : Numbers
 no_numbers = record { variables = []; own = []; places = λ p. pos 0 }
 
+-- whether one layer is no variable, no own variable and no place
 abbrev pub names_nothing_here : Term-F Term → Bool
 names_nothing_here (Var k) = false
 names_nothing_here (Own k) = false

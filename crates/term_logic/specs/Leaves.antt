@@ -21,6 +21,7 @@ pub record Leaves : Type 0 where
   pub own : ℕ → Option Term
   pub place : Place → Option Term
 
+-- one layer, its parts with their leaves replaced: where it is a leaf, it is replaced itself
 abbrev pub replaced_here : Leaves → Term-F Term → Term
 replaced_here l (Num n) = term.Num n
 replaced_here l (Var k) = unwrap_or (l.variable k) (term.Var k)
@@ -39,6 +40,7 @@ replaced_here l (Sgn n a) = term.Sgn n a
 abbrev pub replaced : Leaves → Term → Term
 replaced l t = fold-Term Term (replaced_here l) t
 
+-- one layer of a formula, its parts with their leaves replaced
 abbrev pub replaced_formula_here : Leaves → Formula-F Formula → Formula
 replaced_formula_here l layer.True = formula.True
 replaced_formula_here l layer.False = formula.False

@@ -26,6 +26,7 @@ shown_form tree l = (l.constant, shown tree l.parts.items)
 abbrev pub shown_lent : List (Bor Term × ℤ) → List (Term × ℤ)
 shown_lent ps = shown (λ (t : Bor Term). t.now) ps
 
+-- the form with these parts
 abbrev pub shown_tree : Linear (Bor Term) → Parts
 shown_tree l = shown_form (λ (t : Bor Term). t.now) l
 

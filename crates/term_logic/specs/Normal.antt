@@ -50,6 +50,7 @@ layer_form t (Sub f g) = combined (λ x y. x -ℤ y) f g
 layer_form t (Mul f g) = product t f g
 layer_form t _ = single t
 
+-- one layer as a term, beside its form
 abbrev pub form_here : Term-F (Term × Form) → Term × Form
 form_here l =
     let t = roll-Term (map-Term (Term × Form) Term (λ p. p.0) l) in
@@ -67,6 +68,7 @@ layer_way t (Sub a b) = t ∷ a ++ b
 layer_way t (Mul a b) = t ∷ a ++ b
 layer_way t _ = t ∷ []
 
+-- one layer as a term, beside the terms on the way to its form
 abbrev pub way_here : Term-F (Term × List Term) → Term × List Term
 way_here l =
     let t = roll-Term (map-Term (Term × List Term) Term (λ p. p.0) l) in

@@ -34,6 +34,7 @@ same_here (Sgn n a) t = passes (sgn_of t) (λ p. n == p.0 && a p.1)
 abbrev pub same : Term → Term → Bool
 same t u = fold-Term (Term → Bool) same_here t u
 
+-- whether one layer is that of the formula, from whether its parts are given formulas
 abbrev pub same_formula_here : Formula-F (Formula → Bool) → Formula → Bool
 same_formula_here layer.True f = is_true f
 same_formula_here layer.False f = is_false f

@@ -34,10 +34,11 @@ pub record Report : Type 0 where
 abbrev pub seen : reports.Report → Report
 seen r = record { text = r.text.items; status = r.status }
 
--- A module file has at most 4,194,304 bytes, a notes file at most 16,777,216.
+-- A module file has at most 4,194,304 bytes.
 abbrev pub module_limit : ℕ
 module_limit = 4194304
 
+-- A notes file has at most 16,777,216 bytes.
 abbrev pub notes_limit : ℕ
 notes_limit = 16777216
 
@@ -49,10 +50,11 @@ words_refused = record { text = line (codes "words refused"); status = status.Wo
 abbrev pub nothing_read : Report
 nothing_read = record { text = []; status = status.ReadFault }
 
--- A file that is too long.
+-- A module file that is too long.
 abbrev pub module_too_long : Report
 module_too_long = record { text = limit_line word.Module module_limit; status = status.Limit }
 
+-- A notes file that is too long.
 abbrev pub notes_too_long : Report
 notes_too_long = record { text = limit_line word.Notes notes_limit; status = status.Limit }
 
@@ -64,10 +66,11 @@ module_valid = record { text = line (codes "valid"); status = status.Good }
 abbrev pub module_listed : Module → Marks → Report
 module_listed m k = record { text = listing_text m k; status = status.Good }
 
--- A valid module that is not of the form First, and notes that are not of the form FirstNotes.
+-- A valid module that is not of the form First.
 abbrev pub unbuilt_module : Report
 unbuilt_module = record { text = line (codes "unbuilt module"); status = status.Negative }
 
+-- Notes that are not of the form FirstNotes.
 abbrev pub unbuilt_notes : Report
 unbuilt_notes = record { text = line (codes "unbuilt notes"); status = status.Negative }
 
@@ -124,6 +127,7 @@ pub data Command : Type 0 where
   Show : List ℕ → Command
   Verify : List ℕ → List ℕ → Command
 
+-- The command that words are, if they have a listed form.
 abbrev pub command_of : List (List ℕ) → Option Command
 command_of (word ∷ «module» ∷ []) =
     if bytes_eq word (codes "check") then Some (Check «module») else (if bytes_eq word (codes "show") then Some (Show «module») else None)
@@ -163,6 +167,7 @@ OfShow files «module» = OfFile module_limit module_too_long OfShown (contents_
 abbrev pub OfVerify : Files → List ℕ → List ℕ → Report → Type 0
 OfVerify files «module» notes = OfFile module_limit module_too_long (λ bytes. OfNotes bytes (contents_of files notes)) (contents_of files «module»)
 
+-- Of a command, or of words that are none.
 abbrev pub OfCommand : Files → Option Command → Report → Type 0
 OfCommand files None r = r ≡ words_refused
 OfCommand files (Some (Check «module»)) r = OfCheck files «module» r

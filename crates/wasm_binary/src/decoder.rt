@@ -1,4 +1,4 @@
-ghost use Rattle.std.specs.Prelude.{◌≡◌, ◌≤◌, ◌-◌, ◌<◌, ℕ, List, [], length, IfOk, OnOk, IfErr, Ok, Err};
+ghost use Rattle.std.specs.Prelude.{◌≡◌, ◌≤◌, ◌-◌, ◌<◌, ℕ, List, [], length, IfOk, OnOk, IfErr, IsTrue, Ok, Err};
 ghost use Rattle.wasm_syntax.specs.declared.module.Module.{Module};
 ghost use Rattle.wasm_syntax.specs.declared.module.Marks.{Marks};
 ghost use Rattle.binary_grammar.specs.declared.fault.DecodeFault.{DecodeFault};
@@ -6,6 +6,7 @@ ghost use Rattle.binary_grammar.specs.ModuleGrammar.{Spells, InLimits};
 ghost use Rattle.binary_grammar.specs.Plans.{Fault, Refused};
 ghost use Rattle.binary_grammar.specs.Bounds.{the_bounds};
 ghost use Rattle.binary_grammar.specs.Reading.{Gives};
+ghost use Rattle.wasm_binary.specs.Kinds.{is_late};
 ghost use Rattle.binary_grammar.specs.SectionReading.{after_of, with_section, no_sections, sections_at, funcs_of, places_of, finished_at, header, magic_at, header_at, module_at};
 
 use crate::read::{malformed, place};
@@ -73,6 +74,53 @@ fn after_of(old: u8, id: u8, entries: usize) -> u8
     if entries == 0 { old } else { id }
 }
 
+/// Goes behind a section with this id and so many entries.
+fn pass(draft: &mut Draft, id: u8, entries: usize)
+    ensures { draft.new ≡ record draft.old { last = id; after = after_of draft.old.after id entries } }
+{
+    draft.last = id;
+    draft.after = after_of(draft.after, id, entries);
+}
+
+/// Adds a section that stands behind the memories.
+fn add_late(draft: &mut Draft, section: Section)
+    requires { IsTrue (is_late section) }
+    ensures { draft.new ≡ with_section draft.old section }
+{
+    match section {
+        Section::Globals(globals, places) => {
+            pass(draft, 6, globals.len());
+            draft.module.globals = globals;
+            draft.marks.globals = places;
+        }
+        Section::Exports(exports, places) => {
+            pass(draft, 7, exports.len());
+            draft.module.exports = exports;
+            draft.marks.exports = places;
+        }
+        Section::Start(index, place) => {
+            pass(draft, 8, 1);
+            draft.module.start = Some(index);
+            draft.marks.start = place;
+        }
+        Section::Elems(elems, places) => {
+            pass(draft, 9, elems.len());
+            draft.module.elems = elems;
+            draft.marks.elems = places;
+        }
+        Section::Bodies(bodies) => {
+            pass(draft, 10, bodies.len());
+            draft.bodies = bodies;
+        }
+        Section::Segments(segments, places) => {
+            pass(draft, 11, segments.len());
+            draft.module.segments = segments;
+            draft.marks.segments = places;
+        }
+        _ => unreachable!(),
+    }
+}
+
 fn add_section(draft: &mut Draft, section: Section) -> Result<(), OutOfMemory>
     ensures { OnOk result (draft.new ≡ with_section draft.old section) }
 {
@@ -82,70 +130,31 @@ fn add_section(draft: &mut Draft, section: Section) -> Result<(), OutOfMemory>
             draft.module.customs.push(Custom { after, name, bytes })?;
         }
         Section::Types(types, places) => {
-            draft.last = 1;
-            draft.after = after_of(draft.after, 1, types.len());
+            pass(draft, 1, types.len());
             draft.module.types = types;
             draft.marks.types = places;
         }
         Section::Imports(imports, places) => {
-            draft.last = 2;
-            draft.after = after_of(draft.after, 2, imports.len());
+            pass(draft, 2, imports.len());
             draft.module.imports = imports;
             draft.marks.imports = places;
         }
         Section::Funcs(types, places) => {
-            draft.last = 3;
-            draft.after = after_of(draft.after, 3, types.len());
+            pass(draft, 3, types.len());
             draft.declared = types;
             draft.marks.funcs = places;
         }
         Section::Tables(tables, places) => {
-            draft.last = 4;
-            draft.after = after_of(draft.after, 4, tables.len());
+            pass(draft, 4, tables.len());
             draft.module.tables = tables;
             draft.marks.tables = places;
         }
         Section::Memories(memories, places) => {
-            draft.last = 5;
-            draft.after = after_of(draft.after, 5, memories.len());
+            pass(draft, 5, memories.len());
             draft.module.memories = memories;
             draft.marks.memories = places;
         }
-        Section::Globals(globals, places) => {
-            draft.last = 6;
-            draft.after = after_of(draft.after, 6, globals.len());
-            draft.module.globals = globals;
-            draft.marks.globals = places;
-        }
-        Section::Exports(exports, places) => {
-            draft.last = 7;
-            draft.after = after_of(draft.after, 7, exports.len());
-            draft.module.exports = exports;
-            draft.marks.exports = places;
-        }
-        Section::Start(index, place) => {
-            draft.last = 8;
-            draft.after = 8;
-            draft.module.start = Some(index);
-            draft.marks.start = place;
-        }
-        Section::Elems(elems, places) => {
-            draft.last = 9;
-            draft.after = after_of(draft.after, 9, elems.len());
-            draft.module.elems = elems;
-            draft.marks.elems = places;
-        }
-        Section::Bodies(bodies) => {
-            draft.last = 10;
-            draft.after = after_of(draft.after, 10, bodies.len());
-            draft.bodies = bodies;
-        }
-        Section::Segments(segments, places) => {
-            draft.last = 11;
-            draft.after = after_of(draft.after, 11, segments.len());
-            draft.module.segments = segments;
-            draft.marks.segments = places;
-        }
+        late => add_late(draft, late),
     }
     Ok(())
 }

@@ -47,38 +47,14 @@ fn read_index(
     ensures simple { IfOk result (λ x. IsTrue (is_simple x.0)) }
 {
     match op {
-        Opcode::Br => {
-            let (index, rest) = read_number(bytes, end)?;
-            Ok((Instr::Br(index), rest))
-        }
-        Opcode::BrIf => {
-            let (index, rest) = read_number(bytes, end)?;
-            Ok((Instr::BrIf(index), rest))
-        }
-        Opcode::Call => {
-            let (index, rest) = read_number(bytes, end)?;
-            Ok((Instr::Call(index), rest))
-        }
-        Opcode::LocalGet => {
-            let (index, rest) = read_number(bytes, end)?;
-            Ok((Instr::LocalGet(index), rest))
-        }
-        Opcode::LocalSet => {
-            let (index, rest) = read_number(bytes, end)?;
-            Ok((Instr::LocalSet(index), rest))
-        }
-        Opcode::LocalTee => {
-            let (index, rest) = read_number(bytes, end)?;
-            Ok((Instr::LocalTee(index), rest))
-        }
-        Opcode::GlobalGet => {
-            let (index, rest) = read_number(bytes, end)?;
-            Ok((Instr::GlobalGet(index), rest))
-        }
-        Opcode::GlobalSet => {
-            let (index, rest) = read_number(bytes, end)?;
-            Ok((Instr::GlobalSet(index), rest))
-        }
+        Opcode::Br => read_number(bytes, end).map(|(x, rest)| (Instr::Br(x), rest)),
+        Opcode::BrIf => read_number(bytes, end).map(|(x, rest)| (Instr::BrIf(x), rest)),
+        Opcode::Call => read_number(bytes, end).map(|(x, rest)| (Instr::Call(x), rest)),
+        Opcode::LocalGet => read_number(bytes, end).map(|(x, rest)| (Instr::LocalGet(x), rest)),
+        Opcode::LocalSet => read_number(bytes, end).map(|(x, rest)| (Instr::LocalSet(x), rest)),
+        Opcode::LocalTee => read_number(bytes, end).map(|(x, rest)| (Instr::LocalTee(x), rest)),
+        Opcode::GlobalGet => read_number(bytes, end).map(|(x, rest)| (Instr::GlobalGet(x), rest)),
+        Opcode::GlobalSet => read_number(bytes, end).map(|(x, rest)| (Instr::GlobalSet(x), rest)),
         _ => Err(malformed(at, DecodeWord::Byte)),
     }
 }
@@ -209,13 +185,8 @@ fn read_op(
             let (ty, rest) = read_head(full, at, bytes, end)?;
             Ok((Flat::If(ty), rest))
         }
-        Opcode::Else => {
-            if turn {
-                Ok((Flat::Else, bytes))
-            } else {
-                Err(malformed(at, DecodeWord::Byte))
-            }
-        }
+        Opcode::Else if turn => Ok((Flat::Else, bytes)),
+        Opcode::Else => Err(malformed(at, DecodeWord::Byte)),
         Opcode::End => Ok((Flat::End, bytes)),
         _ => {
             let (instr, rest) = read_simple(alloc, at, op, bytes, end)?;

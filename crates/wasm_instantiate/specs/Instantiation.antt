@@ -86,19 +86,22 @@ value_of_code globals addresses (Then i rest) = const_value globals addresses i
 
 -- ---- allocation (section 4.5.3)
 
--- The address in an extern of each kind.
+-- The address of the function that an extern is.
 abbrev pub func_in_extern : Extern → Option ℕ
 func_in_extern (Func a) = Some a
 func_in_extern _ = None
 
+-- The address of the table that an extern is.
 abbrev pub table_in_extern : Extern → Option ℕ
 table_in_extern (Table a) = Some a
 table_in_extern _ = None
 
+-- The address of the memory that an extern is.
 abbrev pub memory_in_extern : Extern → Option ℕ
 memory_in_extern (Memory a) = Some a
 memory_in_extern _ = None
 
+-- The address of the global that an extern is.
 abbrev pub global_in_extern : Extern → Option ℕ
 global_in_extern (Global a) = Some a
 global_in_extern _ = None

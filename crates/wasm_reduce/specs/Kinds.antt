@@ -3,8 +3,8 @@ use Rattle.std.specs.Prelude.{Bool, true, false}
 use Rattle.wasm_syntax.specs.declared.instr.Instr.{Instr}
 use Rattle.wasm_syntax.specs.declared.instr.Instr.TheVariants as instr
 
--- The instruction changes nothing outside its frame's operands, locals and labels, or enters a frame; it is no block and has
--- immediates.
+-- The instruction writes to no global, table or memory: it works on its frame's operands, locals and labels, or leaves its
+-- frame, or enters one. Blocks are not among these, nor instructions without immediates, but for the numeric operators.
 abbrev pub only_reads : Instr → Bool
 only_reads (instr.Num op) = true
 only_reads (instr.Const value) = true
@@ -19,3 +19,11 @@ only_reads (instr.BrTable ks k) = true
 only_reads (instr.Call x) = true
 only_reads (instr.CallIndirect x) = true
 only_reads _ = false
+
+-- The instruction works on locals, or reads a global (Core Specification, section 2.4.3).
+abbrev pub is_variable : Instr → Bool
+is_variable (instr.LocalGet x) = true
+is_variable (instr.LocalSet x) = true
+is_variable (instr.LocalTee x) = true
+is_variable (instr.GlobalGet x) = true
+is_variable _ = false

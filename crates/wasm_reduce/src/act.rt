@@ -71,17 +71,10 @@ pub fn act(
     match next_in(store, frame) {
         Next::One(instr) => {
             let on = frame.position + 1;
-            match instr {
-                Instr::Plain(op) => {
-                    let op = *op;
-                    act_plain(alloc, store, frame, op, policy, on)
-                }
-                Instr::GlobalSet(x) => {
-                    let x = *x;
-                    Ok(set_global(store, frame, x, on))
-                }
+            match *instr {
+                Instr::Plain(op) => act_plain(alloc, store, frame, op, policy, on),
+                Instr::GlobalSet(x) => Ok(set_global(store, frame, x, on)),
                 Instr::Store(op, _, offset) => {
-                    let (op, offset) = (*op, *offset);
                     Ok(store_number(alloc, store, frame, op, offset, on))
                 }
                 _ => act_reading(store, frame, instr, on),

@@ -4,7 +4,7 @@ ghost use Rattle.std.specs.Prelude.{◌≡◌, ℕ, ◌∷◌, Bool, List, Some,
 ghost use Rattle.wasm_syntax.specs.Trees.{instruction_of};
 ghost use Rattle.wasm_store.specs.Control.{Branches, BrIfStep, BrTableStep};
 ghost use Rattle.wasm_reduce.specs.Acts.{Can, Acts, Does, moved_to};
-ghost use Rattle.wasm_reduce.specs.Kinds.{only_reads};
+ghost use Rattle.wasm_reduce.specs.Kinds.{only_reads, is_variable};
 ghost use Rattle.wasm_reduce.specs.Layers.{EntersNone};
 
 use crate::calls::{call, call_indirect};
@@ -31,25 +31,19 @@ fn br_if(store: &Store, frame: &mut CodeFrame, k: u32, on: u32) -> Effect
     branch(store, frame, k, 1)
 }
 
-/// An instruction that only reads the store.
-pub fn act_reading(
+/// An instruction on locals, or one that reads a global.
+fn act_variable(
     store: &Store,
     frame: &mut CodeFrame,
     instr: &Instr,
     on: u32,
 ) -> Result<Effect, OutOfMemory>
-    requires kind { IsTrue (only_reads instr.now) }
+    requires kind { IsTrue (is_variable instr.now) }
     requires can { (grows : Bool) × Can (Does grows (instruction_of instr.now) store.now frame.old on) }
     ensures ok { IfOk result (λ effect. (grows : Bool) → Acts (Does grows (instruction_of instr.now) store.now frame.old on) store.now frame.old store.now frame.new effect) }
     ensures err { OnErr result ((frame.new ≡ frame.old) × EntersNone (instruction_of instr.now)) }
 {
     match instr {
-        Instr::Num(op) => Ok(compute(store, frame, *op, on)),
-        Instr::Const(value) => {
-            push(&mut frame.operands, *value)?;
-            frame.position = on;
-            Ok(Effect::Went)
-        }
         Instr::LocalGet(x) => {
             let value = local(frame.locals.as_slice(), *x);
             push(&mut frame.operands, value)?;
@@ -74,6 +68,29 @@ pub fn act_reading(
             frame.position = on;
             Ok(Effect::Went)
         }
+        _ => unreachable!(),
+    }
+}
+
+/// An instruction that only reads the store.
+pub fn act_reading(
+    store: &Store,
+    frame: &mut CodeFrame,
+    instr: &Instr,
+    on: u32,
+) -> Result<Effect, OutOfMemory>
+    requires kind { IsTrue (only_reads instr.now) }
+    requires can { (grows : Bool) × Can (Does grows (instruction_of instr.now) store.now frame.old on) }
+    ensures ok { IfOk result (λ effect. (grows : Bool) → Acts (Does grows (instruction_of instr.now) store.now frame.old on) store.now frame.old store.now frame.new effect) }
+    ensures err { OnErr result ((frame.new ≡ frame.old) × EntersNone (instruction_of instr.now)) }
+{
+    match instr {
+        Instr::Num(op) => Ok(compute(store, frame, *op, on)),
+        Instr::Const(value) => {
+            push(&mut frame.operands, *value)?;
+            frame.position = on;
+            Ok(Effect::Went)
+        }
         Instr::Load(op, _, offset) => Ok(load(store, frame, *op, *offset, on)),
         Instr::Br(k) => Ok(branch(store, frame, *k, 0)),
         Instr::BrIf(k) => Ok(br_if(store, frame, *k, on)),
@@ -84,6 +101,6 @@ pub fn act_reading(
         }
         Instr::Call(x) => Ok(call(store, frame, *x, on)),
         Instr::CallIndirect(x) => Ok(call_indirect(store, frame, *x, on)),
-        _ => unreachable!(),
+        _ => act_variable(store, frame, instr, on),
     }
 }

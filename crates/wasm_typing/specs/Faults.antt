@@ -43,6 +43,7 @@ pub record Condition : Type 0 where
   pub holds : Bool
   pub word : ValidWord
 
+-- this condition, with this word
 abbrev pub condition : Bool → ValidWord → Condition
 condition b w = record { holds = b; word = w }
 
@@ -51,22 +52,27 @@ abbrev pub first_failing : List Condition → Option ValidWord
 first_failing [] = None
 first_failing (c ∷ cs) = if c.holds then first_failing cs else Some c.word
 
+-- A number is at most a bound, if there is a bound.
 abbrev pub is_at_most : ℕ → Option ℕ → Bool
 is_at_most n None = true
 is_at_most n (Some bound) = nat_le n bound
 
+-- A number, if there is one, is at most a bound.
 abbrev pub is_within : Option ℕ → ℕ → Bool
 is_within None bound = true
 is_within (Some n) bound = nat_le n bound
 
+-- A memory's minimum is at most its maximum, and both are at most 65,536 pages (section 3.2.4).
 abbrev pub are_pages : Limits → Bool
 are_pages l = is_at_most l.min l.max && (nat_le l.min 65536 && is_within l.max 65536)
 
+-- Two value types are the same.
 abbrev pub is_same_type : ValType → ValType → Bool
 is_same_type I32 I32 = true
 is_same_type I64 I64 = true
 is_same_type _ _ = false
 
+-- There is a type, and it is this one.
 abbrev pub has_type : Option ValType → ValType → Bool
 has_type None t = false
 has_type (Some s) t = is_same_type s t
@@ -109,6 +115,7 @@ global_fault m g =
     let ty = const_type (imported_globals_of m) g.init in
     first_failing (condition (is_some ty) word.Const ∷ condition (has_type ty g.ty.value) word.WrongType ∷ [])
 
+-- What an export names exists.
 abbrev pub names_one : Module → ExportKind → Bool
 names_one m (export.Func f) = nat_lt f (length (func_types_of m))
 names_one m (export.Table t) = nat_lt t (length (tables_of m))
@@ -126,6 +133,7 @@ export_row m names e =
 abbrev pub export_fault : Module → ℕ → Export → Option ValidWord
 export_fault m n e = export_row m (map (λ (o : Export). o.name) (take n m.exports)) e
 
+-- There is a function type, and it is `[] -> []`.
 abbrev pub is_empty_type : Option FuncType → Bool
 is_empty_type None = false
 is_empty_type (Some ty) = nat_eq (length ty.params) 0 && nat_eq (length ty.results) 0
@@ -159,22 +167,26 @@ segment_fault m s =
 
 -- ---- instructions
 
+-- There is a global type, and it is mutable.
 abbrev pub is_mutable : Option GlobalType → Bool
 is_mutable None = false
 is_mutable (Some g) = g.mutable
 
+-- Two lists of types are the same.
 abbrev pub same_types : Types → Types → Bool
 same_types = pointwise is_same_type
 
+-- There is a label, and a branch to it takes these types.
 abbrev pub is_label_of : Option Types → Types → Bool
 is_label_of None ts = false
 is_label_of (Some us) ts = same_types us ts
 
--- The targets differ in what a branch to them takes, or some is too deep.
+-- The targets of a `br_table` exist, and a branch to each takes what one to the last takes.
 abbrev pub are_targets : List Types → List ℕ → Option Types → Bool
 are_targets labels ls None = false
 are_targets labels ls (Some ts) = list_all (λ l. is_label_of (slice_get labels l) ts) ls
 
+-- What an instruction without immediates needs beside its operands: `memory.size` and `memory.grow` need a memory.
 abbrev pub plain_conditions : Context → Plain → List Condition
 plain_conditions c MemorySize = condition (nat_lt 0 (length c.memories)) word.Index ∷ []
 plain_conditions c MemoryGrow = condition (nat_lt 0 (length c.memories)) word.Index ∷ []

@@ -37,7 +37,7 @@ FirstSideTyped c labels head None = Unit {0}
 FirstSideTyped c labels head (Some first) = SequenceTyped c labels (sequence_of first) [] (part_results c head)
 
 -- Open parts, the innermost first, have a typing: in each the instructions so far have one, and leave some operands, and
--- over these the next part was begun (section 3.3.5).
+-- over these the next part was begun (section 3.3.6).
 abbrev pub PartsTyped : Context → (inner : Option Head) → List Part → Type 0
 PartsTyped c inner [] = Unit {0}
 PartsTyped c inner (p ∷ around) =

@@ -30,7 +30,7 @@ pub record Context : Type 0 where
   pub locals : List ValType
   pub results : Types
 
--- The types of a block's results (section 3.2.2; at most one in version 1.0).
+-- The types of a block's results (section 2.3.2, result types; at most one in version 1.0).
 abbrev pub types_of : Option ValType → Types
 types_of None = []
 types_of (Some t) = t ∷ []
@@ -39,7 +39,7 @@ types_of (Some t) = t ∷ []
 abbrev pub num_takes : NumOp → Types
 num_takes op = if num_operands op == 1 then operand_type op ∷ [] else (operand_type op ∷ operand_type op ∷ [])
 
--- Operands of the types `takes` become operands of the types `gives`, over any operands below (section 3.3.5, the rule
+-- Operands of the types `takes` become operands of the types `gives`, over any operands below (section 3.3.6, the rule
 -- for the last instruction of a sequence).
 abbrev pub Turns : (takes gives ins outs : Types) → Type 0
 Turns takes gives ins outs = (below : Types) × (ins ≡ takes ++ below) × (outs ≡ gives ++ below)
@@ -102,7 +102,7 @@ abbrev mutual
       (0 < length c.tables)
       × ((ty : FuncType) × (slice_get c.types t ≡ Some ty) × Turns (I32 ∷ reverse ty.params) (reverse ty.results) ins outs)
 
-  -- A sequence is valid likewise: each instruction takes what those before it leave (section 3.3.5).
+  -- A sequence is valid likewise: each instruction takes what those before it leave (section 3.3.6).
   pub SequenceTyped : Context → (labels : List Types) → Sequence → (ins outs : Types) → Type 0
   SequenceTyped c labels Empty ins outs = ins ≡ outs
   SequenceTyped c labels (Then i s) ins outs =

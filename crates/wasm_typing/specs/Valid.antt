@@ -28,18 +28,22 @@ use Rattle.wasm_typing.specs.Typing.{Context, BodyTyped}
 
 -- ---- what entries name: imports first, then what the module defines (section 2.5.1)
 
+-- the number of the type of an imported function
 abbrev pub func_import : ImportKind → Option ℕ
 func_import (import.Func t) = Some t
 func_import _ = None
 
+-- the type of an imported table
 abbrev pub table_import : ImportKind → Option Limits
 table_import (import.Table l) = Some l
 table_import _ = None
 
+-- the type of an imported memory
 abbrev pub memory_import : ImportKind → Option Limits
 memory_import (import.Memory l) = Some l
 memory_import _ = None
 
+-- the type of an imported global
 abbrev pub global_import : ImportKind → Option GlobalType
 global_import (import.Global g) = Some g
 global_import _ = None
@@ -92,15 +96,15 @@ context_of m f =
 
 -- ---- one entry
 
--- A function type has at most one result (section 3.2.3).
+-- A function type has at most one result (section 3.2.2).
 abbrev pub TypeValid : FuncType → Type 0
 TypeValid ty = length ty.results ≤ 1
 
--- A table's minimum is at most its maximum (section 3.2.4).
+-- A table's minimum is at most its maximum (section 3.2.3).
 abbrev pub TableValid : Limits → Type 0
 TableValid l = IfSome l.max (λ max. l.min ≤ max)
 
--- A memory's minimum is at most its maximum, and both are at most 65,536 pages (section 3.2.5).
+-- A memory's minimum is at most its maximum, and both are at most 65,536 pages (section 3.2.4).
 abbrev pub MemoryValid : Limits → Type 0
 MemoryValid l = (l.min ≤ 65536) × IfSome l.max (λ max. (l.min ≤ max) × (max ≤ 65536))
 
@@ -196,18 +200,22 @@ abbrev mutual
   SequenceInRange Empty = Unit {0}
   SequenceInRange (Then i s) = InstructionInRange i × SequenceInRange s
 
+-- The minimum of limits and the maximum, if there is one, are numbers of 32 bits.
 abbrev pub LimitsInRange : Limits → Type 0
 LimitsInRange l = IsWord l.min × IfSome l.max IsWord
 
+-- Each byte is below 256.
 abbrev pub BytesInRange : List ℕ → Type 0
 BytesInRange bytes = All (λ b. b < 256) bytes
 
+-- The numbers in what is imported lie in their ranges.
 abbrev pub ImportInRange : ImportKind → Type 0
 ImportInRange (import.Func t) = IsWord t
 ImportInRange (import.Table l) = LimitsInRange l
 ImportInRange (import.Memory l) = LimitsInRange l
 ImportInRange (import.Global g) = Unit {0}
 
+-- The number of what is exported has 32 bits.
 abbrev pub ExportInRange : ExportKind → Type 0
 ExportInRange (export.Func f) = IsWord f
 ExportInRange (export.Table t) = IsWord t

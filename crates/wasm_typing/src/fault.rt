@@ -19,7 +19,7 @@ pub enum ValidWord {
 /// Why a module is no valid one: the place of the first entry or instruction at fault, and what is wrong there.
 #[derive(Clone, Copy, Debug, PartialEq, Eq, Error)]
 pub enum ValidFault {
-    #[error("invalid at {at}")]
+    #[error("invalid at {at:#010x}: {word:?}")]
     Invalid { at: usize, word: ValidWord },
     #[error("out of memory")]
     OutOfMemory,

@@ -40,11 +40,12 @@ vector_text text xs = number_text (length xs) ++ flat_map text xs
 unfoldable pub sized_text : List ℕ → List ℕ
 sized_text bytes = number_text (length bytes) ++ bytes
 
--- A value type (5.3.1).
+-- The byte of a value type (5.3.1).
 abbrev pub value_type_code : ValType → ℕ
 value_type_code I32 = 0x7f
 value_type_code I64 = 0x7e
 
+-- A value type: its byte (5.3.1).
 abbrev pub value_type_text : ValType → List ℕ
 value_type_text t = value_type_code t ∷ []
 
@@ -57,11 +58,12 @@ block_type_code (Some t) = value_type_code t
 abbrev pub func_type_text : FuncType → List ℕ
 func_type_text t = 0x60 ∷ (vector_text value_type_text t.params ++ vector_text value_type_text t.results)
 
--- Limits (5.3.4).
+-- A least number, and a greatest where there is one (5.3.4).
 abbrev pub between_text : ℕ → Option ℕ → List ℕ
 between_text least None = 0 ∷ number_text least
 between_text least (Some greatest) = 1 ∷ (number_text least ++ number_text greatest)
 
+-- Limits (5.3.4).
 abbrev pub limits_text : Limits → List ℕ
 limits_text l = between_text l.min l.max
 
@@ -69,35 +71,38 @@ limits_text l = between_text l.min l.max
 abbrev pub table_type_text : Limits → List ℕ
 table_type_text l = 0x70 ∷ limits_text l
 
--- A global type (5.3.7).
+-- The byte of a global's mutability (5.3.7).
 abbrev pub mutability_code : Bool → ℕ
 mutability_code false = 0
 mutability_code true = 1
 
+-- A global type (5.3.7).
 abbrev pub global_type_text : GlobalType → List ℕ
 global_type_text g = value_type_code g.value ∷ mutability_code g.mutable ∷ []
 
--- An import: its two names, and what is imported (5.5.5).
+-- What is imported (5.5.5).
 abbrev pub import_kind_text : ImportKind → List ℕ
 import_kind_text (import.Func n) = 0 ∷ number_text n
 import_kind_text (import.Table l) = 1 ∷ table_type_text l
 import_kind_text (import.Memory l) = 2 ∷ limits_text l
 import_kind_text (import.Global g) = 3 ∷ global_type_text g
 
+-- An import: its two names, and what is imported (5.5.5).
 abbrev pub import_text : Import → List ℕ
 import_text i = sized_text i.«module» ++ (sized_text i.name ++ import_kind_text i.kind)
 
--- An export: its name, and what is exported (5.5.10).
+-- What is exported (5.5.10).
 abbrev pub export_kind_text : ExportKind → List ℕ
 export_kind_text (export.Func n) = 0 ∷ number_text n
 export_kind_text (export.Table n) = 1 ∷ number_text n
 export_kind_text (export.Memory n) = 2 ∷ number_text n
 export_kind_text (export.Global n) = 3 ∷ number_text n
 
+-- An export: its name, and what is exported (5.5.10).
 abbrev pub export_text : Export → List ℕ
 export_text e = sized_text e.name ++ export_kind_text e.kind
 
--- The opcode of an instruction (5.4).
+-- The opcode of an instruction that takes no numbers and is no operator (5.4).
 abbrev pub plain_opcode : plain_type.Plain → Opcode
 plain_opcode plain.Unreachable = op.Unreachable
 plain_opcode plain.Nop = op.Nop
@@ -107,10 +112,12 @@ plain_opcode plain.Select = op.Select
 plain_opcode plain.MemorySize = op.MemorySize
 plain_opcode plain.MemoryGrow = op.MemoryGrow
 
+-- The opcode of a constant (5.4.5).
 abbrev pub const_opcode : Val → Opcode
 const_opcode (val.I32 n) = op.I32Const
 const_opcode (val.I64 n) = op.I64Const
 
+-- The opcode of an instruction (5.4).
 abbrev pub opcode_of : Instr → Opcode
 opcode_of (Plain p) = plain_opcode p
 opcode_of (Num n) = op.Num n
@@ -131,16 +138,18 @@ opcode_of (BrTable ls l) = op.BrTable
 opcode_of (Call f) = op.Call
 opcode_of (CallIndirect t) = op.CallIndirect
 
--- The immediates of an instruction that is no block, loop or if (5.4).
+-- The immediates of such an instruction: a zero byte for those of a memory's size (5.4.4), and else none.
 abbrev pub plain_immediates : plain_type.Plain → List ℕ
 plain_immediates plain.MemorySize = 0 ∷ []
 plain_immediates plain.MemoryGrow = 0 ∷ []
 plain_immediates _ = []
 
+-- The number of a constant, spelled as a signed one (5.4.5).
 abbrev pub const_text : Val → List ℕ
 const_text (val.I32 n) = signed_text 32 n
 const_text (val.I64 n) = signed_text 64 n
 
+-- The immediates of an instruction that is no block, loop or if (5.4).
 abbrev pub immediates : Instr → List ℕ
 immediates (Plain p) = plain_immediates p
 immediates (Num n) = []
@@ -170,20 +179,22 @@ item_text (item.If t) = code_of op.If ∷ block_type_code t ∷ []
 item_text item.Else = code_of op.Else ∷ []
 item_text item.End = code_of op.End ∷ []
 
+-- Items of flat code, one after another (5.4).
 abbrev pub items_text : List Flat → List ℕ
 items_text = flat_map item_text
 
--- An expression: its items one after another, with its last end (5.4.9).
+-- An expression: its items one after another, with its last end (5.4.6).
 abbrev pub expression_text : List Instr → List ℕ
 expression_text is = items_text (flat_body is)
 
--- A local before runs of equal ones joins the first of them where that has its type (5.5.13).
+-- Whether two value types are the same.
 abbrev pub is_same_type : ValType → ValType → Bool
 is_same_type I32 I32 = true
 is_same_type I64 I64 = true
 is_same_type I32 I64 = false
 is_same_type I64 I32 = false
 
+-- Locals of one type before runs of equal ones join the first of these where that has their type (5.5.13).
 abbrev pub joined_to : ℕ → ValType → List (ℕ × ValType) → List (ℕ × ValType)
 joined_to n t [] = (n, t) ∷ []
 joined_to n t (r ∷ rs) = if is_same_type t r.1 then (n + r.0, t) ∷ rs else (n, t) ∷ r ∷ rs
@@ -193,13 +204,15 @@ abbrev pub runs_of : List ValType → List (ℕ × ValType)
 runs_of [] = []
 runs_of (t ∷ ts) = joined_to 1 t (runs_of ts)
 
+-- A run of equal locals: how many, and their type (5.5.13).
 abbrev pub run_text : ℕ × ValType → List ℕ
 run_text r = number_text r.0 ++ value_type_text r.1
 
--- A function's locals and code, behind their size (5.5.13).
+-- A function's locals and code (5.5.13).
 abbrev pub body_text : Func → List ℕ
 body_text f = vector_text run_text (runs_of f.locals) ++ expression_text f.body
 
+-- A function's locals and code, behind their size (5.5.13).
 abbrev pub func_text : Func → List ℕ
 func_text f = sized_text (body_text f)
 
@@ -229,10 +242,11 @@ unfoldable pub start_text : Option ℕ → List ℕ
 start_text None = []
 start_text (Some n) = section_text 8 (number_text n)
 
--- A custom section: a name, and whatever follows it (5.5.3).
+-- The contents of a custom section: a name, and whatever follows it (5.5.3).
 abbrev pub custom_contents : Custom → List ℕ
 custom_contents c = sized_text c.name ++ c.bytes
 
+-- A custom section (5.5.3).
 abbrev pub custom_text : Custom → List ℕ
 custom_text c = section_text 0 (custom_contents c)
 
@@ -240,6 +254,7 @@ custom_text c = section_text 0 (custom_contents c)
 abbrev pub customs_after : ℕ → List Custom → List Custom
 customs_after id = filter (λ c. c.after == id)
 
+-- The custom sections that name a section, one after another (5.5.3).
 unfoldable pub customs_text : ℕ → List Custom → List ℕ
 customs_text id cs = flat_map custom_text (customs_after id cs)
 

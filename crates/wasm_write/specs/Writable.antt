@@ -33,31 +33,39 @@ IsU32 n = n < 2 ^ 32
 abbrev pub IsCounted : {A : Type 0} → List A → Type 0
 IsCounted xs = IsU32 (length xs)
 
+-- A name has few enough bytes for a count, and is UTF-8 (5.2.4).
 abbrev pub IsName : List ℕ → Type 0
 IsName name = IsCounted name × IsUtf8 name
 
+-- A number that may be left out is a u32 where it is there.
 abbrev pub IsMaximum : Option ℕ → Type 0
 IsMaximum None = Unit {0}
 IsMaximum (Some n) = IsU32 n
 
+-- The numbers of limits are u32 (5.3.4).
 abbrev pub AreLimits : Limits → Type 0
 AreLimits l = IsU32 l.min × IsMaximum l.max
 
+-- A function type has few enough parameters and results for their counts (5.3.3).
 abbrev pub TypeWritable : FuncType → Type 0
 TypeWritable t = IsCounted t.params × IsCounted t.results
 
+-- The numbers of what is imported are u32 (5.5.5).
 abbrev pub ImportKindWritable : ImportKind → Type 0
 ImportKindWritable (import.Func n) = IsU32 n
 ImportKindWritable (import.Table l) = AreLimits l
 ImportKindWritable (import.Memory l) = AreLimits l
 ImportKindWritable (import.Global g) = Unit {0}
 
+-- An import has two names, and numbers that can be written (5.5.5).
 abbrev pub ImportWritable : Import → Type 0
 ImportWritable i = IsName i.«module» × IsName i.name × ImportKindWritable i.kind
 
+-- An export has a name, and an index that is a u32 (5.5.10).
 abbrev pub ExportWritable : Export → Type 0
 ExportWritable e = IsName e.name × IsU32 (export_index e.kind)
 
+-- A constant's number is below 2 to the number of its type's bits (2.4.1).
 abbrev pub ConstWritable : Val → Type 0
 ConstWritable (val.I32 n) = n < 2 ^ 32
 ConstWritable (val.I64 n) = n < 2 ^ 64
@@ -83,6 +91,7 @@ InstrWritable (BrTable ls l) = IsCounted ls × AllByRecursion IsU32 ls × IsU32 
 InstrWritable (Call f) = IsU32 f
 InstrWritable (CallIndirect t) = IsU32 t
 
+-- The numbers of an item that is a single instruction are those of its form. Other items have none.
 abbrev pub ItemWritable : Flat → Type 0
 ItemWritable (item.One i) = InstrWritable i
 ItemWritable _ = Unit {0}
@@ -91,21 +100,29 @@ ItemWritable _ = Unit {0}
 abbrev pub CodeWritable : List Instr → Type 0
 CodeWritable is = AllByRecursion ItemWritable (flat is)
 
+-- The code of a global's initial value can be written (5.5.9).
 abbrev pub GlobalWritable : Global → Type 0
 GlobalWritable g = CodeWritable g.init
 
+-- A function's type index is a u32, the size of its locals and code is too, and its code can be written (5.5.6,
+-- 5.5.13).
 abbrev pub FuncWritable : Func → Type 0
 FuncWritable f = IsU32 f.ty × IsCounted (body_text f) × CodeWritable f.body
 
+-- An element segment's numbers are u32, it has few enough functions for a count, and its offset can be written
+-- (5.5.12).
 abbrev pub ElemWritable : Elem → Type 0
 ElemWritable e = IsU32 e.table × CodeWritable e.offset × IsCounted e.funcs × AllByRecursion IsU32 e.funcs
 
+-- A data segment's index is a u32, it has few enough bytes for a count, and its offset can be written (5.5.14).
 abbrev pub SegmentWritable : Segment → Type 0
 SegmentWritable s = IsU32 s.memory × CodeWritable s.offset × IsCounted s.bytes
 
+-- A custom section has a name, and contents whose size is a u32 (5.5.3).
 abbrev pub CustomWritable : Custom → Type 0
 CustomWritable c = IsName c.name × IsCounted (custom_contents c)
 
+-- How many entries the start section has: one, where there is a start function.
 abbrev pub start_count : Option ℕ → ℕ
 start_count None = 0
 start_count (Some n) = 1

@@ -42,10 +42,12 @@ in_box = via (pair (const (Ptr × Global)) this) Inside
 abbrev holding : {X Y : Type 0} → Box X Global → Y → Box Y Global
 holding b y = record { ptr = b.ptr; alloc = b.alloc; value = y }
 
+-- how a box over values of a type is stored
 abbrev box_row : RattleType → RattleType
 box_row R = std_box.the_row R heap.the_row ghosts
 
 module _ (R S : RattleType) (h : R.Denot → S.Denot) where
+  -- boxes are stored alike where their values are
   std_places : Alike R S h → Alike (box_row R) (box_row S) (λ b. holding b (h b.value))
   unfolding part_of
   std_places alike = record {
@@ -54,6 +56,7 @@ module _ (R S : RattleType) (h : R.Denot → S.Denot) where
     shr_same = λ b i. (box_row (one_value R (alike.mir_same i) (alike.own_same b.value i) (alike.shr_same b.value i) gnil)).shr_at (holding b tt);
   }
 
+  -- so is a `Boxed`
   pub the_places : Alike R S h → Alike (contracts.the_row R) (contracts.the_row S) ((the_former this).map R.Denot S.Denot h)
   the_places alike =
       view_places in_box this view (λ X Y k fields. refl) (λ X fields. refl) R.Denot S.Denot h
@@ -62,5 +65,6 @@ module _ (R S : RattleType) (h : R.Denot → S.Denot) where
       (struct_places (inside.the_type R) (inside.the_type S) ((λ b. holding b (h b.value)), tt) _ (λ fields. refl) refl
       (laid _ _ _ (std_places alike), tt))
 
+  -- a map that keeps the codes of values keeps those of boxes
   pub the_codes_placed : Recodes R S h → Recodes (contracts.the_row R) (contracts.the_row S) ((the_former this).map R.Denot S.Denot h)
   the_codes_placed recodes value = recodes value

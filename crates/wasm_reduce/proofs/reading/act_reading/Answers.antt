@@ -30,10 +30,10 @@ branch-store-requires-in-BrTable-clause-can c =
     let last = c.in-BrTable.last in
     let n = c.top_number-chosen.result in
     let top : reverse f.operands ≡ val.I32 n ∷ c.top_number-chosen.ensures.0 =
-    ap reverse (sym c.as_slice-in-BrTable.ensures) ∙ c.top_number-chosen.ensures.1
+    ap reverse (sym c.as_slice.ensures) ∙ c.top_number-chosen.ensures.1
     in
     let k : c.label_of-k.result ≡ unwrap_or (slice_get labels n) last =
-    c.label_of-k.ensures ∙ ap (λ ls. unwrap_or (slice_get ls n) last) c.as_slice-in-BrTable-2.ensures
+    c.label_of-k.ensures ∙ ap (λ ls. unwrap_or (slice_get ls n) last) c.as_slice-in-BrTable.ensures
     in
     let r : (grows : Bool) × Can (Does grows (instruction_of (instr.BrTable labels last)) s f c.args.on) =
     subst (λ (i : Instr). (grows : Bool) × Can (Does grows (instruction_of i) s f c.args.on)) c.in-BrTable.is c.requires.can
@@ -49,10 +49,10 @@ returns-in-BrTable-clause-ok c = λ grows.
     let n = c.top_number-chosen.result in
     let b = c.branch-store-in-BrTable in
     let top : reverse f.operands ≡ val.I32 n ∷ c.top_number-chosen.ensures.0 =
-    ap reverse (sym c.as_slice-in-BrTable.ensures) ∙ c.top_number-chosen.ensures.1
+    ap reverse (sym c.as_slice.ensures) ∙ c.top_number-chosen.ensures.1
     in
     let k : c.label_of-k.result ≡ unwrap_or (slice_get labels n) last =
-    c.label_of-k.ensures ∙ ap (λ ls. unwrap_or (slice_get ls n) last) c.as_slice-in-BrTable-2.ensures
+    c.label_of-k.ensures ∙ ap (λ ls. unwrap_or (slice_get ls n) last) c.as_slice-in-BrTable.ensures
     in
     subst (λ (i : Instr). Acts (Does grows (instruction_of i) s f c.args.on) s f s b.new.frame b.result) (sym c.in-BrTable.is) (
     acts_map (λ below d. Branches s (under (seen_in s f) 1) below d (seen_in s f).labels c.label_of-k.result)
