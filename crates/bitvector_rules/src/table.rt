@@ -28,7 +28,7 @@ use wasm_values::{List, OutOfMemory};
 //     Ground           likewise, on the tree of the conclusion
 //     Goals            there are sub-derivations
 //     BareGoals        there are sub-derivations, and no references
-//     Numbers          the rule takes numbers, and its test is on these too
+//     Numbers          the rule takes numbers, and its test, `fits_linear`, is called apart
 //     Integer          the test is that of a rule of machine integers
 macro_rules! by_rule {
     ($row:ident, $of:ident) => {
@@ -50,7 +50,7 @@ macro_rules! by_rule {
             Refl Order(by_refl)
             Rewrite Order(by_rewrite)
             Eval Ground(by_eval)
-            Linear Numbers(fits_linear)
+            Linear Numbers
             Floor Order(by_floor)
             Ceil Order(by_ceil)
             Order Order(by_order)
@@ -76,9 +76,9 @@ macro_rules! by_rule {
 }
 
 macro_rules! rows {
-    ($row:ident, $of:ident; $($rule:ident $form:ident($what:ident))*) => {
+    ($row:ident, $of:ident; $($rule:ident $form:ident $(($what:ident))?)*) => {
         match $of {
-            $(Rule::$rule => $row!($form $what),)*
+            $(Rule::$rule => $row!($form $($what)?),)*
         }
     };
 }
@@ -88,10 +88,10 @@ pub(crate) fn takes_numbers(rule: Rule) -> bool
     ensures { result ≡ takes_numbers rule }
 {
     macro_rules! is_numbers {
-        (Numbers $test:ident) => {
+        (Numbers) => {
             true
         };
-        ($form:ident $what:ident) => {
+        ($form:ident $($what:ident)?) => {
             false
         };
     }
@@ -106,7 +106,7 @@ pub(crate) fn machine_rule(rule: Rule) -> Option<IntegerRule>
         (Integer $rule:ident) => {
             Some(IntegerRule::$rule)
         };
-        ($form:ident $what:ident) => {
+        ($form:ident $($what:ident)?) => {
             None
         };
     }
@@ -135,7 +135,7 @@ fn fits_equality(
         (Ground $test:ident) => {
             $test(table, refs, conclusion, tree)
         };
-        ($form:ident $what:ident) => {
+        ($form:ident $($what:ident)?) => {
             false
         };
     }
@@ -198,7 +198,7 @@ pub(crate) fn rule_goals(
         (BareGoals $goals:ident) => {
             if is_empty(refs) { $goals(alloc, table, conclusion) } else { Ok(None) }
         };
-        ($form:ident $what:ident) => {
+        ($form:ident $($what:ident)?) => {
             further_goals(alloc, table, facts, refs, conclusion, tree, rule)
         };
     }
