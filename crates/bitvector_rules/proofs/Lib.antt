@@ -2,3 +2,4 @@ pub mod FactLemmas
 pub mod FormLemmas
 pub mod GoalLemmas
 pub mod RuleLaws
+pub mod Weights

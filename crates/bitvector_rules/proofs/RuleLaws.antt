@@ -133,17 +133,6 @@ module _ (n : Numbers) (hyps earlier : List Formula) where
     sound_orr : IsTrue (passes (one_premise hyps earlier refs) (λ f. passes (or_of c) (λ q. same_formula f q.1))) → Holds n c
     sound_orr h = by_one _ h (λ f holds test. passed (or_of c) _ (Holds n c) test (λ q is same. holds-or n c q is ∙ or_right _ _ (same_holds n f q.1 same holds)))
 
-    sound_apply : IsTrue (passes (two_premises hyps earlier refs) (λ p. passes (imp_of p.0) (λ q. same_formula q.0 p.1 && same_formula q.1 c))) → Holds n c
-    sound_apply h = by_two _ h (λ p first second test. passed (imp_of p.0) _ (Holds n c) test (λ q is same. let parts = both_true _ _ same in
-        same_holds n q.1 c parts.1 (leads_to (holds n q.0) (holds n q.1) (sym (holds-imp n p.0 q is) ∙ first) (same_held n q.0 p.1 parts.0 second))))
-
-    sound_clash : IsTrue (passes (two_premises hyps earlier refs) (λ p. passes (not_of p.1) (λ f. same_formula p.0 f))) → Holds n c
-    sound_clash h = by_two _ h (λ p first second test. passed (not_of p.1) _ (Holds n c) test (λ f is same.
-        absurd (clashes (holds n f) (same_holds n p.0 f same first) (sym (holds-not n p.1 f is) ∙ second))))
-
-    sound_explode : IsTrue (passes (one_premise hyps earlier refs) (λ p. is_false p)) → Holds n c
-    sound_explode h = by_one _ h (λ p holds test. absurd (true≢false (sym holds ∙ holds-false n p test)))
-
     met : (gs : List (Formula × Formula)) (g : Formula × Formula) → Some (g ∷ []) ≡ Some gs → AllMet n gs → Holds n g.0 → Holds n g.1
     met gs g e all = All-head (λ g. Holds n g.0 → Holds n g.1) g [] (subst (AllMet n) (sym (same_Some (g ∷ []) gs e)) all)
 
@@ -163,6 +152,10 @@ module _ (n : Numbers) (hyps earlier : List Formula) where
     sound_assume gs None is e all = cc
     sound_assume gs (Some q) is e all = holds-imp n c q is ∙ leads (holds n q.0) (holds n q.1) (met gs (q.0, q.1) e all)
 
+    sound_apply : IsTrue (passes (two_premises hyps earlier refs) (λ p. passes (imp_of p.0) (λ q. same_formula q.0 p.1 && same_formula q.1 c))) → Holds n c
+    sound_apply h = by_two _ h (λ p first second test. passed (imp_of p.0) _ (Holds n c) test (λ q is same. let parts = both_true _ _ same in
+        same_holds n q.1 c parts.1 (leads_to (holds n q.0) (holds n q.1) (sym (holds-imp n p.0 q is) ∙ first) (same_held n q.0 p.1 parts.0 second))))
+
     sound_contra : (gs : List (Formula × Formula)) → Some ((formula.Not c, formula.False) ∷ []) ≡ Some gs → AllMet n gs → Holds n c
     sound_contra gs e all = by (holds n c) refl
       where
@@ -173,6 +166,13 @@ module _ (n : Numbers) (hyps earlier : List Formula) where
     sound_refute : (gs : List (Formula × Formula)) (o : Option Formula) → not_of c ≡ o → option_map (λ f. (f, formula.False) ∷ []) o ≡ Some gs → AllMet n gs → Holds n c
     sound_refute gs None is e all = cc
     sound_refute gs (Some f) is e all = holds-not n c f is ∙ denies (holds n f) (λ h. false_fails n (met gs (f, formula.False) e all h))
+
+    sound_clash : IsTrue (passes (two_premises hyps earlier refs) (λ p. passes (not_of p.1) (λ f. same_formula p.0 f))) → Holds n c
+    sound_clash h = by_two _ h (λ p first second test. passed (not_of p.1) _ (Holds n c) test (λ f is same.
+        absurd (clashes (holds n f) (same_holds n p.0 f same first) (sym (holds-not n p.1 f is) ∙ second))))
+
+    sound_explode : IsTrue (passes (one_premise hyps earlier refs) (λ p. is_false p)) → Holds n c
+    sound_explode h = by_one _ h (λ p holds test. absurd (true≢false (sym holds ∙ holds-false n p test)))
 
     sound_equality : (rule : Rule) → IsTrue (fits_equality hyps earlier refs c rule) → Holds n c
     sound_equality Refl h = sound_refl n c (both_true _ _ h).1

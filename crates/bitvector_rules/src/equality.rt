@@ -2,14 +2,14 @@ ghost use Rattle.std.specs.Prelude.{◌≡◌, ◌≤◌, ◌&&◌, length, IfOk
 ghost use Rattle.term_trees.specs.Formulas.{well_formed_formula};
 ghost use Rattle.term_logic.specs.Formulas.{formula_bound, formula_of};
 ghost use Rattle.term_trees.specs.Same.{passes};
-ghost use Rattle.equality_rules.specs.Equality.{is_eval, is_floor, is_ceil, is_notle, is_notlt, is_mulpos};
+ghost use Rattle.equality_rules.specs.Equality.{is_refl, is_eval, is_floor, is_ceil, is_order, is_notle, is_notlt, is_mulpos};
 ghost use Rattle.equality_rules.specs.Rewrite.{is_rewrite};
-ghost use Rattle.bitvector_rules.specs.Facts.{one_premise, two_premises, hyps_of, earlier_of, FactsWithin};
-ghost use Rattle.bitvector_rules.specs.Goals.{fits_equality, takes_numbers, fits_linear};
+ghost use Rattle.bitvector_rules.specs.Facts.{is_empty, one_premise, two_premises, hyps_of, earlier_of, FactsWithin};
+ghost use Rattle.bitvector_rules.specs.Goals.{fits_linear};
 
 use crate::facts::Facts;
 use crate::items::is_empty;
-use crate::step::{Ref, Rule};
+use crate::step::Ref;
 use equality_rules::{
     is_ceil, is_eval, is_floor, is_linear, is_mulpos, is_notle, is_notlt, is_order, is_refl,
     is_rewrite,
@@ -18,19 +18,55 @@ use std::alloc::Global;
 use term_logic::{Formula, IdFormula, TermTable};
 use wasm_values::OutOfMemory;
 
-/// Whether the conclusion, which stands for the tree, is ground and true.
-fn by_eval(table: &TermTable, conclusion: &IdFormula, tree: &Formula) -> bool
+/// Whether the conclusion equates a term with itself, and there are no premises.
+pub(crate) fn by_refl(
+    table: &TermTable,
+    _facts: &Facts<'_>,
+    refs: &[Ref],
+    conclusion: &IdFormula,
+) -> bool
+    requires { formula_bound conclusion.now ≤ length table.now }
+    ensures { result ≡ (is_empty refs.now && is_refl (formula_of table.now conclusion.now)) }
+{
+    is_empty(refs) && is_refl(table, conclusion)
+}
+
+/// Whether the conclusion, which stands for the tree, is ground and true, and there are no premises.
+pub(crate) fn by_eval(
+    table: &TermTable,
+    refs: &[Ref],
+    conclusion: &IdFormula,
+    tree: &Formula,
+) -> bool
     requires tree { formula_of table.now conclusion.now ≡ tree.now }
     requires well_formed { IsTrue (well_formed_formula tree.now) }
-    ensures { result ≡ is_eval (formula_of table.now conclusion.now) }
+    ensures { result ≡ (is_empty refs.now && is_eval (formula_of table.now conclusion.now)) }
 {
     let _ = table;
     let _ = conclusion;
-    is_eval(tree)
+    is_empty(refs) && is_eval(tree)
+}
+
+/// Whether the conclusion says how two terms are ordered, and there are no premises.
+pub(crate) fn by_order(
+    table: &TermTable,
+    _facts: &Facts<'_>,
+    refs: &[Ref],
+    conclusion: &IdFormula,
+) -> bool
+    requires { formula_bound conclusion.now ≤ length table.now }
+    ensures { result ≡ (is_empty refs.now && is_order (formula_of table.now conclusion.now)) }
+{
+    is_empty(refs) && is_order(table, conclusion)
 }
 
 /// Whether the conclusion is the second premise, some of its terms replaced by the first.
-fn by_rewrite(table: &TermTable, facts: &Facts<'_>, refs: &[Ref], conclusion: &IdFormula) -> bool
+pub(crate) fn by_rewrite(
+    table: &TermTable,
+    facts: &Facts<'_>,
+    refs: &[Ref],
+    conclusion: &IdFormula,
+) -> bool
     requires facts { FactsWithin (length table.now) facts.now }
     requires conclusion { formula_bound conclusion.now ≤ length table.now }
     ensures { result ≡ passes (two_premises (hyps_of table.now facts.now) (earlier_of table.now facts.now) refs.now) (λ p. is_rewrite p.0 p.1 (formula_of table.now conclusion.now)) }
@@ -42,7 +78,12 @@ fn by_rewrite(table: &TermTable, facts: &Facts<'_>, refs: &[Ref], conclusion: &I
 }
 
 /// Whether the conclusion bounds a term from above as the premise bounds a multiple.
-fn by_floor(table: &TermTable, facts: &Facts<'_>, refs: &[Ref], conclusion: &IdFormula) -> bool
+pub(crate) fn by_floor(
+    table: &TermTable,
+    facts: &Facts<'_>,
+    refs: &[Ref],
+    conclusion: &IdFormula,
+) -> bool
     requires facts { FactsWithin (length table.now) facts.now }
     requires conclusion { formula_bound conclusion.now ≤ length table.now }
     ensures { result ≡ passes (one_premise (hyps_of table.now facts.now) (earlier_of table.now facts.now) refs.now) (λ p. is_floor p (formula_of table.now conclusion.now)) }
@@ -54,7 +95,12 @@ fn by_floor(table: &TermTable, facts: &Facts<'_>, refs: &[Ref], conclusion: &IdF
 }
 
 /// Whether the conclusion bounds a term from below as the premise bounds a multiple.
-fn by_ceil(table: &TermTable, facts: &Facts<'_>, refs: &[Ref], conclusion: &IdFormula) -> bool
+pub(crate) fn by_ceil(
+    table: &TermTable,
+    facts: &Facts<'_>,
+    refs: &[Ref],
+    conclusion: &IdFormula,
+) -> bool
     requires facts { FactsWithin (length table.now) facts.now }
     requires conclusion { formula_bound conclusion.now ≤ length table.now }
     ensures { result ≡ passes (one_premise (hyps_of table.now facts.now) (earlier_of table.now facts.now) refs.now) (λ p. is_ceil p (formula_of table.now conclusion.now)) }
@@ -66,7 +112,12 @@ fn by_ceil(table: &TermTable, facts: &Facts<'_>, refs: &[Ref], conclusion: &IdFo
 }
 
 /// Whether the premise denies `<=`, and the conclusion is what follows.
-fn by_notle(table: &TermTable, facts: &Facts<'_>, refs: &[Ref], conclusion: &IdFormula) -> bool
+pub(crate) fn by_notle(
+    table: &TermTable,
+    facts: &Facts<'_>,
+    refs: &[Ref],
+    conclusion: &IdFormula,
+) -> bool
     requires facts { FactsWithin (length table.now) facts.now }
     requires conclusion { formula_bound conclusion.now ≤ length table.now }
     ensures { result ≡ passes (one_premise (hyps_of table.now facts.now) (earlier_of table.now facts.now) refs.now) (λ p. is_notle p (formula_of table.now conclusion.now)) }
@@ -78,7 +129,12 @@ fn by_notle(table: &TermTable, facts: &Facts<'_>, refs: &[Ref], conclusion: &IdF
 }
 
 /// Whether the premise denies `<`, and the conclusion is what follows.
-fn by_notlt(table: &TermTable, facts: &Facts<'_>, refs: &[Ref], conclusion: &IdFormula) -> bool
+pub(crate) fn by_notlt(
+    table: &TermTable,
+    facts: &Facts<'_>,
+    refs: &[Ref],
+    conclusion: &IdFormula,
+) -> bool
     requires facts { FactsWithin (length table.now) facts.now }
     requires conclusion { formula_bound conclusion.now ≤ length table.now }
     ensures { result ≡ passes (one_premise (hyps_of table.now facts.now) (earlier_of table.now facts.now) refs.now) (λ p. is_notlt p (formula_of table.now conclusion.now)) }
@@ -90,7 +146,12 @@ fn by_notlt(table: &TermTable, facts: &Facts<'_>, refs: &[Ref], conclusion: &IdF
 }
 
 /// Whether the conclusion says of the product what the premises say of its sides.
-fn by_mulpos(table: &TermTable, facts: &Facts<'_>, refs: &[Ref], conclusion: &IdFormula) -> bool
+pub(crate) fn by_mulpos(
+    table: &TermTable,
+    facts: &Facts<'_>,
+    refs: &[Ref],
+    conclusion: &IdFormula,
+) -> bool
     requires facts { FactsWithin (length table.now) facts.now }
     requires conclusion { formula_bound conclusion.now ≤ length table.now }
     ensures { result ≡ passes (two_premises (hyps_of table.now facts.now) (earlier_of table.now facts.now) refs.now) (λ p. is_mulpos p.0 p.1 (formula_of table.now conclusion.now)) }
@@ -98,16 +159,6 @@ fn by_mulpos(table: &TermTable, facts: &Facts<'_>, refs: &[Ref], conclusion: &Id
     match facts.two(table, refs) {
         Some((first, second)) => is_mulpos(table, first, second, conclusion),
         None => false,
-    }
-}
-
-/// Whether the rule is `linear`, the one that takes numbers.
-pub(crate) fn takes_numbers(rule: Rule) -> bool
-    ensures { result ≡ takes_numbers rule }
-{
-    match rule {
-        Rule::Linear => true,
-        _ => false,
     }
 }
 
@@ -129,33 +180,4 @@ pub(crate) fn fits_linear(
     };
     let fits = is_linear(alloc, table, &premises, numbers, conclusion)?;
     Ok(fits)
-}
-
-/// Whether a step fits a rule of equality and order, but for `linear`.
-pub(crate) fn fits_equality(
-    table: &TermTable,
-    facts: &Facts<'_>,
-    refs: &[Ref],
-    conclusion: &IdFormula,
-    tree: &Formula,
-    rule: Rule,
-) -> bool
-    requires facts { FactsWithin (length table.now) facts.now }
-    requires conclusion { formula_bound conclusion.now ≤ length table.now }
-    requires tree { formula_of table.now conclusion.now ≡ tree.now }
-    requires well_formed { IsTrue (well_formed_formula tree.now) }
-    ensures { result ≡ fits_equality (hyps_of table.now facts.now) (earlier_of table.now facts.now) refs.now (formula_of table.now conclusion.now) rule }
-{
-    match rule {
-        Rule::Refl => is_empty(refs) && is_refl(table, conclusion),
-        Rule::Rewrite => by_rewrite(table, facts, refs, conclusion),
-        Rule::Eval => is_empty(refs) && by_eval(table, conclusion, tree),
-        Rule::Floor => by_floor(table, facts, refs, conclusion),
-        Rule::Ceil => by_ceil(table, facts, refs, conclusion),
-        Rule::Order => is_empty(refs) && is_order(table, conclusion),
-        Rule::Notle => by_notle(table, facts, refs, conclusion),
-        Rule::Notlt => by_notlt(table, facts, refs, conclusion),
-        Rule::Mulpos => by_mulpos(table, facts, refs, conclusion),
-        _ => false,
-    }
 }

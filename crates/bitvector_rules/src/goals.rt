@@ -5,18 +5,14 @@ ghost use Rattle.term_trees.specs.Formulas.{well_formed_formula};
 ghost use Rattle.term_logic.specs.Formulas.{formula_bound, formula_of};
 ghost use Rattle.term_trees.specs.Views.{not_of, or_of, imp_of};
 ghost use Rattle.bitvector_rules.specs.declared.step.Step.{out-Step};
-ghost use Rattle.bitvector_rules.specs.Facts.{is_empty, one_premise, hyps_of, earlier_of, FactsWithin};
-ghost use Rattle.bitvector_rules.specs.Machine.{machine_rule};
-ghost use Rattle.bitvector_rules.specs.Goals.{when, further_goals, rule_goals, step_goals, goal_of, GoalsWithin};
+ghost use Rattle.bitvector_rules.specs.Facts.{one_premise, hyps_of, earlier_of, FactsWithin};
+ghost use Rattle.bitvector_rules.specs.Goals.{when, step_goals, goal_of, GoalsWithin};
 
-use crate::equality::{fits_equality, fits_linear, takes_numbers};
+use crate::equality::fits_linear;
 use crate::facts::Facts;
 use crate::items::is_empty;
-use crate::logic::{
-    is_and, is_apply, is_clash, is_explode, is_hyp, is_left, is_orl, is_orr, is_right,
-};
-use crate::machine::{fits_machine, machine_rule};
-use crate::step::{Ref, Rule, Step};
+use crate::step::{Ref, Step};
+use crate::table::{rule_goals, takes_numbers};
 use std::alloc::Global;
 use term_logic::{Boxed, Formula, IdFormula, TermTable};
 use wasm_values::{List, OutOfMemory};
@@ -29,7 +25,7 @@ pub struct SubGoal {
 }
 
 /// No goals, where the test holds.
-fn when(alloc: Global, table: &TermTable, holds: bool) -> Option<List<SubGoal>>
+pub(crate) fn when(alloc: Global, table: &TermTable, holds: bool) -> Option<List<SubGoal>>
     ensures goals { option_map (map (goal_of table.now)) result ≡ when holds }
     ensures within { IfSome result (λ gs. GoalsWithin (length table.now) gs) }
 {
@@ -56,7 +52,7 @@ fn one_goal(
 }
 
 /// The goals of `cases`: the conclusion, under each part of the disjunction that the premise is.
-fn cases_goals(
+pub(crate) fn cases_goals(
     alloc: Global,
     table: &TermTable,
     facts: &Facts<'_>,
@@ -83,7 +79,7 @@ fn cases_goals(
 }
 
 /// The goal of `assume`: what the conclusion leads to, under what it starts from.
-fn assume_goals(
+pub(crate) fn assume_goals(
     alloc: Global,
     table: &TermTable,
     conclusion: &IdFormula,
@@ -102,7 +98,7 @@ fn assume_goals(
 
 /// The goal of `contra`: `false`, under the denial of the conclusion.
 #[tactic(auto, using(crate::proofs::GoalLemmas::shown))]
-fn contra_goals(
+pub(crate) fn contra_goals(
     alloc: Global,
     table: &TermTable,
     conclusion: &IdFormula,
@@ -117,7 +113,7 @@ fn contra_goals(
 
 /// The goal of `refute`: `false`, under what the conclusion denies.
 #[tactic(auto, using(crate::proofs::GoalLemmas::shown))]
-fn refute_goals(
+pub(crate) fn refute_goals(
     alloc: Global,
     table: &TermTable,
     conclusion: &IdFormula,
@@ -131,76 +127,6 @@ fn refute_goals(
     };
     let f = f.copy(alloc)?;
     Ok(Some(one_goal(alloc, table, f, IdFormula::False)?))
-}
-
-/// The goals of a step by a rule of machine integers, where its rule is one, and else of equality and order.
-fn further_goals(
-    alloc: Global,
-    table: &TermTable,
-    facts: &Facts<'_>,
-    refs: &[Ref],
-    conclusion: &IdFormula,
-    tree: &Formula,
-    rule: Rule,
-) -> Result<Option<List<SubGoal>>, OutOfMemory>
-    requires facts { FactsWithin (length table.now) facts.now }
-    requires conclusion { formula_bound conclusion.now ≤ length table.now }
-    requires tree { formula_of table.now conclusion.now ≡ tree.now }
-    requires well_formed { IsTrue (well_formed_formula tree.now) }
-    ensures goals { IfOk result (λ r. option_map (map (goal_of table.now)) r ≡ further_goals (hyps_of table.now facts.now) (earlier_of table.now facts.now) refs.now (formula_of table.now conclusion.now) rule (machine_rule rule)) }
-    ensures within { IfOk result (λ r. IfSome r (λ gs. GoalsWithin (length table.now) gs)) }
-{
-    match machine_rule(rule) {
-        Some(machine) => {
-            let fits = fits_machine(alloc, table, facts, refs, conclusion, machine)?;
-            Ok(when(alloc, table, fits))
-        }
-        None => {
-            let fits = fits_equality(table, facts, refs, conclusion, tree, rule);
-            Ok(when(alloc, table, fits))
-        }
-    }
-}
-
-/// The goals of a step by its rule.
-fn rule_goals(
-    alloc: Global,
-    table: &TermTable,
-    facts: &Facts<'_>,
-    refs: &[Ref],
-    conclusion: &IdFormula,
-    tree: &Formula,
-    rule: Rule,
-) -> Result<Option<List<SubGoal>>, OutOfMemory>
-    requires facts { FactsWithin (length table.now) facts.now }
-    requires conclusion { formula_bound conclusion.now ≤ length table.now }
-    requires tree { formula_of table.now conclusion.now ≡ tree.now }
-    requires well_formed { IsTrue (well_formed_formula tree.now) }
-    ensures goals { IfOk result (λ r. option_map (map (goal_of table.now)) r ≡ rule_goals (hyps_of table.now facts.now) (earlier_of table.now facts.now) refs.now (formula_of table.now conclusion.now) rule) }
-    ensures within { IfOk result (λ r. IfSome r (λ gs. GoalsWithin (length table.now) gs)) }
-{
-    let bare = is_empty(refs);
-    match rule {
-        Rule::Hyp => Ok(when(alloc, table, is_hyp(table, facts, refs, conclusion))),
-        Rule::True => Ok(when(alloc, table, bare && conclusion.is_true(table))),
-        Rule::And => Ok(when(alloc, table, is_and(table, facts, refs, conclusion))),
-        Rule::Left => Ok(when(alloc, table, is_left(table, facts, refs, conclusion))),
-        Rule::Right => Ok(when(alloc, table, is_right(table, facts, refs, conclusion))),
-        Rule::Orl => Ok(when(alloc, table, is_orl(table, facts, refs, conclusion))),
-        Rule::Orr => Ok(when(alloc, table, is_orr(table, facts, refs, conclusion))),
-        Rule::Cases => cases_goals(alloc, table, facts, refs, conclusion),
-        Rule::Assume if bare => assume_goals(alloc, table, conclusion),
-        Rule::Apply => Ok(when(alloc, table, is_apply(table, facts, refs, conclusion))),
-        Rule::Contra if bare => contra_goals(alloc, table, conclusion),
-        Rule::Refute if bare => refute_goals(alloc, table, conclusion),
-        Rule::Assume | Rule::Contra | Rule::Refute => Ok(None),
-        Rule::Clash => {
-            let clashes = is_clash(table, facts, refs) && conclusion.is_false(table);
-            Ok(when(alloc, table, clashes))
-        }
-        Rule::Explode => Ok(when(alloc, table, is_explode(table, facts, refs))),
-        _ => further_goals(alloc, table, facts, refs, conclusion, tree, rule),
-    }
 }
 
 /// What the sub-derivations of a step have to show. `None` comes exactly where the step has no such premises and

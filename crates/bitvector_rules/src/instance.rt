@@ -29,18 +29,7 @@ pub fn says(table: &TermTable, tree: &Formula, formula: &IdFormula) -> bool
         args: &[],
         result: None,
     };
-    let same = table.is_replaced_formula(tree, &leaves, formula);
-    let LeafIds {
-        variables: _variables,
-        own: _own,
-        locals: _locals,
-        stack: _stack,
-        globals: _globals,
-        pages: _pages,
-        args: _args,
-        result: _result,
-    } = leaves;
-    same
+    table.is_replaced_formula(tree, &leaves, formula)
 }
 
 /// Whether the last of the steps says the formula.

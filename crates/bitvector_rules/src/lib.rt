@@ -10,6 +10,7 @@ pub mod laws;
 mod logic;
 mod machine;
 mod step;
+mod table;
 
 pub use facts::Facts;
 pub use goals::{SubGoal, sub_goals};

@@ -1,10 +1,11 @@
 ghost use Rattle.std.specs.Prelude.{◌≡◌, ◌≤◌, ◌&&◌, length};
 ghost use Rattle.term_logic.specs.Formulas.{formula_bound, formula_of};
 ghost use Rattle.term_trees.specs.Same.{passes, same_formula};
-ghost use Rattle.term_trees.specs.Views.{is_false, not_of, and_of, or_of, imp_of};
-ghost use Rattle.bitvector_rules.specs.Facts.{one_premise, two_premises, hyps_of, earlier_of, FactsWithin};
+ghost use Rattle.term_trees.specs.Views.{is_true, is_false, not_of, and_of, or_of, imp_of};
+ghost use Rattle.bitvector_rules.specs.Facts.{is_empty, one_premise, two_premises, hyps_of, earlier_of, FactsWithin};
 
 use crate::facts::Facts;
+use crate::items::is_empty;
 use crate::step::Ref;
 use term_logic::{IdFormula, TermTable};
 
@@ -23,6 +24,19 @@ pub(crate) fn is_hyp(
         Some(f) => table.same_formula(f, conclusion),
         None => false,
     }
+}
+
+/// Whether the conclusion is `true`, and there are no premises.
+pub(crate) fn is_true(
+    table: &TermTable,
+    _facts: &Facts<'_>,
+    refs: &[Ref],
+    conclusion: &IdFormula,
+) -> bool
+    requires { formula_bound conclusion.now ≤ length table.now }
+    ensures { result ≡ (is_empty refs.now && is_true (formula_of table.now conclusion.now)) }
+{
+    is_empty(refs) && conclusion.is_true(table)
 }
 
 /// Whether the conclusion is the conjunction of the two formulas.
@@ -166,7 +180,7 @@ pub(crate) fn is_apply(
 }
 
 /// Whether the second premise denies the first.
-pub(crate) fn is_clash(table: &TermTable, facts: &Facts<'_>, refs: &[Ref]) -> bool
+fn clashes(table: &TermTable, facts: &Facts<'_>, refs: &[Ref]) -> bool
     requires { FactsWithin (length table.now) facts.now }
     ensures { result ≡ passes (two_premises (hyps_of table.now facts.now) (earlier_of table.now facts.now) refs.now) (λ p. passes (not_of p.1) (λ f. same_formula p.0 f)) }
 {
@@ -179,8 +193,27 @@ pub(crate) fn is_clash(table: &TermTable, facts: &Facts<'_>, refs: &[Ref]) -> bo
     }
 }
 
+/// Whether the second premise denies the first, and the conclusion is `false`.
+pub(crate) fn is_clash(
+    table: &TermTable,
+    facts: &Facts<'_>,
+    refs: &[Ref],
+    conclusion: &IdFormula,
+) -> bool
+    requires facts { FactsWithin (length table.now) facts.now }
+    requires conclusion { formula_bound conclusion.now ≤ length table.now }
+    ensures { result ≡ (passes (two_premises (hyps_of table.now facts.now) (earlier_of table.now facts.now) refs.now) (λ p. passes (not_of p.1) (λ f. same_formula p.0 f)) && is_false (formula_of table.now conclusion.now)) }
+{
+    clashes(table, facts, refs) && conclusion.is_false(table)
+}
+
 /// Whether the premise is `false`.
-pub(crate) fn is_explode(table: &TermTable, facts: &Facts<'_>, refs: &[Ref]) -> bool
+pub(crate) fn is_explode(
+    table: &TermTable,
+    facts: &Facts<'_>,
+    refs: &[Ref],
+    _conclusion: &IdFormula,
+) -> bool
     requires { FactsWithin (length table.now) facts.now }
     ensures { result ≡ passes (one_premise (hyps_of table.now facts.now) (earlier_of table.now facts.now) refs.now) (λ p. is_false p) }
 {

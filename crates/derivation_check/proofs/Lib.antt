@@ -4,4 +4,3 @@ pub mod Progress
 pub mod StepLemmas
 pub mod Steps
 pub mod Truth
-pub mod Weights

@@ -9,7 +9,7 @@ use derivation_check::{Checked, check_derivation};
 use std::alloc::Global;
 use std::test::Fail;
 use term_logic::{Formula, IdFormula, TermTable};
-use wasm_values::List;
+use wasm_values::{List, OutOfMemory};
 
 /// Adds a formula to the table.
 fn put(table: &mut TermTable, facts: &List<IdFormula>, f: &Formula) -> Result<IdFormula, Fail>
@@ -109,6 +109,28 @@ fn derived_last(
 pub(crate) fn checked(alloc: Global, hyps: &str, goal: &str, steps: &str) -> Result<Checked, Fail> {
     let (hyps, _none) = read(alloc, hyps)?;
     let (goals, steps) = read_both(alloc, goal, steps)?;
+    derived_last(alloc, hyps.as_slice(), goals.as_slice(), &steps)
+}
+
+/// Copies of the steps.
+fn copies(alloc: Global, steps: &[Step]) -> Result<List<Step>, OutOfMemory> {
+    let mut copies = List::new(alloc);
+    for step in steps {
+        copies.push(step.copy(alloc)?)?;
+    }
+    Ok(copies)
+}
+
+/// What the check answers of copies of the steps.
+pub(crate) fn checked_copies(
+    alloc: Global,
+    hyps: &str,
+    goal: &str,
+    steps: &str,
+) -> Result<Checked, Fail> {
+    let (hyps, _none) = read(alloc, hyps)?;
+    let (goals, steps) = read_both(alloc, goal, steps)?;
+    let steps = copies(alloc, steps.as_slice())?;
     derived_last(alloc, hyps.as_slice(), goals.as_slice(), &steps)
 }
 

@@ -1,4 +1,4 @@
-use crate::check::{checked, fits_after, wrong_answer, wrong_step};
+use crate::check::{checked, checked_copies, fits_after, wrong_answer, wrong_step};
 use derivation_check::Checked;
 use std::test::Fail;
 
@@ -106,5 +106,16 @@ fn earlier_conclusions_are_no_hypotheses(rt: HostRuntime) -> Result<(), Fail> {
     let alloc = rt.alloc();
     assert!(rt; fits_after(alloc, "a 1 <= b 1 <=", "b 1 <= s1 !hyp")?);
     assert!(rt; !fits_after(alloc, "a 1 <= b 1 <=", "b 1 <= h1 !hyp")?);
+    Ok(())
+}
+
+/// The step has references, numbers and a sub-derivation.
+#[test]
+fn a_copy_is_what_was_copied(rt: HostRuntime) -> Result<(), Fail> {
+    let alloc = rt.alloc();
+    let hyps = "a b <= b c <";
+    let goal = "true a c < imp";
+    let steps = "true a c < imp [ a c < h0 h1 #1 #1 !linear ] !assume";
+    assert_eq!(rt; checked_copies(alloc, hyps, goal, steps)?, Checked::Yes);
     Ok(())
 }

@@ -4,14 +4,22 @@ use std::test::Fail;
 /// Ranges and arithmetic. Each line has hypotheses, a step that is accepted, and one that is refused.
 const ARITHMETIC: &str =
     " | 0 a b i32.lt_s <= a b i32.lt_s 1 <= and !range | 0 a b i32.lt_s <= a b i32.lt_s 0 <= and !range
+ | 0 a b i64.lt_s <= a b i64.lt_s 1 <= and !range | 0 a b i64.lt_s <= a b i64.lt_s 0 <= and !range
+ | 0 a i32.eqz <= a i32.eqz 1 <= and !range | 0 a i32.eqz <= a i32.eqz 4294967295 <= and !range
  | 0 a i64.eqz <= a i64.eqz 1 <= and !range | 0 a i64.eqz <= a i64.eqz 18446744073709551615 <= and !range
  | 0 a i32.clz <= a i32.clz 32 <= and !range | 0 a i32.clz <= a i32.clz 31 <= and !range
+ | 0 a i64.clz <= a i64.clz 64 <= and !range | 0 a i64.clz <= a i64.clz 32 <= and !range
+ | 0 a i32.ctz <= a i32.ctz 32 <= and !range | 0 a i32.ctz <= a i32.ctz 31 <= and !range
  | 0 a i64.ctz <= a i64.ctz 64 <= and !range | 0 a i64.ctz <= a i64.ctz 32 <= and !range
+ | 0 a i32.popcnt <= a i32.popcnt 32 <= and !range | 0 a i32.popcnt <= a i32.popcnt 31 <= and !range
  | 0 a i64.popcnt <= a i64.popcnt 64 <= and !range | 0 a i64.popcnt <= a i64.popcnt 63 <= and !range
  | 0 a low8 <= a low8 255 <= and !range | 0 a low8 <= a low8 256 <= and !range
  | 0 a low16 <= a low16 65535 <= and !range | 0 a low16 <= a low16 65536 <= and !range
  | 0 a low32 <= a low32 4294967295 <= and !range | 0 a low32 <= a low32 18446744073709551615 <= and !range
  | 0 a sext8_32 <= a sext8_32 4294967295 <= and !range | 0 a sext8_32 <= a sext8_32 255 <= and !range
+ | 0 a sext16_32 <= a sext16_32 4294967295 <= and !range | 0 a sext16_32 <= a sext16_32 65535 <= and !range
+ | 0 a sext8_64 <= a sext8_64 18446744073709551615 <= and !range | 0 a sext8_64 <= a sext8_64 4294967295 <= and !range
+ | 0 a sext16_64 <= a sext16_64 18446744073709551615 <= and !range | 0 a sext16_64 <= a sext16_64 65535 <= and !range
  | 0 a sext32_64 <= a sext32_64 18446744073709551615 <= and !range | 0 a sext32_64 <= a sext32_64 4294967295 <= and !range
  | 0 a b i32.add <= a b i32.add 4294967295 <= and !range | 0 a b i32.add <= a b i32.add 4294967294 <= and !range
  | 0 a b i64.xor <= a b i64.xor 18446744073709551615 <= and !range | 0 a b i64.xor <= a b i64.xor 4294967295 <= and !range
@@ -38,18 +46,27 @@ a 18446744073709551615 <= b 18446744073709551615 <= 18446744073709551616 a b + <
 /// Comparisons, digits and changes of width. Each line has hypotheses, a step that is accepted, and one that is refused.
 const DIGITS: &str =
     "0 a <= a 4294967295 <= 0 b <= b 4294967295 <= | a b i32.eq 1 = a b = and a b i32.eq 0 = a b = not and or h0 h1 h2 h3 !test | a b i32.eq 1 = b a = and a b i32.eq 0 = b a = not and or h0 h1 h2 h3 !test
+0 a <= a 18446744073709551615 <= 0 b <= b 18446744073709551615 <= | a b i64.eq 1 = a b = and a b i64.eq 0 = a b = not and or h0 h1 h2 h3 !test | a b i64.eq 1 = b a = and a b i64.eq 0 = b a = not and or h0 h1 h2 h3 !test
+0 a <= a 4294967295 <= 0 b <= b 4294967295 <= | a b i32.ne 1 = a b = not and a b i32.ne 0 = a b = not not and or h0 h1 h2 h3 !test | a b i32.ne 1 = a b = and a b i32.ne 0 = a b = not and or h0 h1 h2 h3 !test
 0 a <= a 18446744073709551615 <= 0 b <= b 18446744073709551615 <= | a b i64.ne 1 = a b = not and a b i64.ne 0 = a b = not not and or h0 h1 h2 h3 !test | a b i64.ne 1 = a b = and a b i64.ne 0 = a b = not and or h0 h1 h2 h3 !test
 0 a <= a 4294967295 <= 0 b <= b 4294967295 <= | a b i32.lt_u 1 = a b < and a b i32.lt_u 0 = a b < not and or h0 h1 h2 h3 !test | a b i32.lt_u 1 = a b <= and a b i32.lt_u 0 = a b <= not and or h0 h1 h2 h3 !test
+0 a <= a 18446744073709551615 <= 0 b <= b 18446744073709551615 <= | a b i64.lt_u 1 = a b < and a b i64.lt_u 0 = a b < not and or h0 h1 h2 h3 !test | a b i64.lt_u 1 = a b <= and a b i64.lt_u 0 = a b <= not and or h0 h1 h2 h3 !test
+0 a <= a 4294967295 <= 0 b <= b 4294967295 <= | a b i32.gt_u 1 = b a < and a b i32.gt_u 0 = b a < not and or h0 h1 h2 h3 !test | a b i32.gt_u 1 = a b < and a b i32.gt_u 0 = a b < not and or h0 h1 h2 h3 !test
 0 a <= a 18446744073709551615 <= 0 b <= b 18446744073709551615 <= | a b i64.gt_u 1 = b a < and a b i64.gt_u 0 = b a < not and or h0 h1 h2 h3 !test | a b i64.gt_u 1 = a b < and a b i64.gt_u 0 = a b < not and or h0 h1 h2 h3 !test
 0 a <= a 4294967295 <= 0 b <= b 4294967295 <= | a b i32.le_u 1 = a b <= and a b i32.le_u 0 = a b <= not and or h0 h1 h2 h3 !test | a b i32.le_u 1 = a b < and a b i32.le_u 0 = a b < not and or h0 h1 h2 h3 !test
+0 a <= a 18446744073709551615 <= 0 b <= b 18446744073709551615 <= | a b i64.le_u 1 = a b <= and a b i64.le_u 0 = a b <= not and or h0 h1 h2 h3 !test | a b i64.le_u 1 = a b < and a b i64.le_u 0 = a b < not and or h0 h1 h2 h3 !test
+0 a <= a 4294967295 <= 0 b <= b 4294967295 <= | a b i32.ge_u 1 = b a <= and a b i32.ge_u 0 = b a <= not and or h0 h1 h2 h3 !test | a b i32.ge_u 1 = a b <= and a b i32.ge_u 0 = a b <= not and or h0 h1 h2 h3 !test
 0 a <= a 18446744073709551615 <= 0 b <= b 18446744073709551615 <= | a b i64.ge_u 1 = b a <= and a b i64.ge_u 0 = b a <= not and or h0 h1 h2 h3 !test | a b i64.ge_u 1 = a b <= and a b i64.ge_u 0 = a b <= not and or h0 h1 h2 h3 !test
 0 a <= a 4294967295 <= | a i32.eqz 1 = a 0 = and a i32.eqz 0 = a 0 = not and or h0 h1 !test | a i32.eqz 1 = a 0 = and a i32.eqz 0 = a 0 = not and or h0 h1 h0 h1 !test
 0 a <= a 18446744073709551615 <= | a i64.eqz 1 = a 0 = and a i64.eqz 0 = a 0 = not and or h0 h1 !test | a i64.eqz 1 = a 0 = and a i64.eqz 0 = a 0 = not and or h0 h1 h0 h1 !test
 0 a <= a 4294967295 <= 0 b <= b 4294967295 <= | a b i32.lt_u 1 = a b < and a b i32.lt_u 0 = a b < not and or h0 h1 h2 h3 !test | a b i32.lt_s 1 = a b < and a b i32.lt_s 0 = a b < not and or h0 h1 h2 h3 !test
  | a b i32.lt_s 1 = a sgn32 b sgn32 < and a b i32.lt_s 0 = a sgn32 b sgn32 < not and or !tests | a b i32.lt_s 1 = a b < and a b i32.lt_s 0 = a b < not and or !tests
  | a b i64.gt_s 1 = b sgn64 a sgn64 < and a b i64.gt_s 0 = b sgn64 a sgn64 < not and or !tests | a b i64.gt_s 1 = a sgn64 b sgn64 < and a b i64.gt_s 0 = a sgn64 b sgn64 < not and or !tests
+ | a b i32.gt_s 1 = b sgn32 a sgn32 < and a b i32.gt_s 0 = b sgn32 a sgn32 < not and or !tests | a b i32.gt_s 1 = a sgn32 b sgn32 < and a b i32.gt_s 0 = a sgn32 b sgn32 < not and or !tests
  | a b i32.le_s 1 = a sgn32 b sgn32 <= and a b i32.le_s 0 = a sgn32 b sgn32 <= not and or !tests | a b i32.le_s 1 = a sgn32 b sgn32 < and a b i32.le_s 0 = a sgn32 b sgn32 < not and or !tests
+ | a b i64.le_s 1 = a sgn64 b sgn64 <= and a b i64.le_s 0 = a sgn64 b sgn64 <= not and or !tests | a b i64.le_s 1 = a sgn64 b sgn64 < and a b i64.le_s 0 = a sgn64 b sgn64 < not and or !tests
  | a b i64.ge_s 1 = b sgn64 a sgn64 <= and a b i64.ge_s 0 = b sgn64 a sgn64 <= not and or !tests | a b i64.ge_s 1 = a sgn64 b sgn64 <= and a b i64.ge_s 0 = a sgn64 b sgn64 <= not and or !tests
+ | a b i32.ge_s 1 = b sgn32 a sgn32 <= and a b i32.ge_s 0 = b sgn32 a sgn32 <= not and or !tests | a b i32.ge_s 1 = a sgn32 b sgn32 <= and a b i32.ge_s 0 = a sgn32 b sgn32 <= not and or !tests
  | a b i64.lt_s 1 = a sgn64 b sgn64 < and a b i64.lt_s 0 = a sgn64 b sgn64 < not and or !tests | a b i64.lt_s 1 = a sgn32 b sgn32 < and a b i64.lt_s 0 = a sgn32 b sgn32 < not and or !tests
 0 a <= a 4294967295 <= | a 2147483647 <= a sgn32 a = and 2147483648 a <= a sgn32 a 4294967296 - = and or h0 h1 !sgn | a 2147483647 <= a sgn32 a = and h0 h1 !sgn
 0 a <= a 18446744073709551615 <= | a 9223372036854775807 <= a sgn64 a = and 9223372036854775808 a <= a sgn64 a 18446744073709551616 - = and or h0 h1 !sgn | a 9223372036854775807 <= a sgn64 a = and 9223372036854775808 a <= a sgn64 a = and or h0 h1 !sgn

@@ -6,16 +6,16 @@ use Rattle.std.specs.Option.{option_map, option_and_then}
 use Rattle.std.specs.Ordering.{int_eq}
 use Rattle.std.proofs.lemmas.Int.{ints}
 use Rattle.std.proofs.lemmas.Bool.Decides.{Decides-int_eq}
-use Rattle.term_logic.specs.declared.term.Term.{Term}
-use Rattle.term_logic.specs.declared.term.Term.TheOpen.{Sub}
-use Rattle.term_logic.specs.declared.term.Term.TheVariants as term
-use Rattle.term_logic.specs.declared.term.Formula.{Formula}
-use Rattle.term_logic.specs.declared.linear.Way.TheVariants.{Sum, Difference, Times}
-use Rattle.term_logic.specs.Ground.{both}
-use Rattle.term_logic.specs.Normal.{Form, combined, is_constant, form, on_the_way, is_low, fits, parts_of}
-use Rattle.term_logic.specs.Same.{passes}
-use Rattle.term_logic.specs.Linear.{Parts, limited, joined, joined_product, linear_parts}
-use Rattle.term_logic.proofs.LinearForms.{form-roll, Covers, form-covers, linear-num, linear-add, linear-sub, linear-mul}
+use Rattle.term_trees.specs.declared.term.Term.{Term}
+use Rattle.term_trees.specs.declared.term.Term.TheOpen.{Sub}
+use Rattle.term_trees.specs.declared.term.Term.TheVariants as term
+use Rattle.term_trees.specs.declared.term.Formula.{Formula}
+use Rattle.term_trees.specs.declared.linear.Way.TheVariants.{Sum, Difference, Times}
+use Rattle.term_trees.specs.Ground.{both}
+use Rattle.term_trees.specs.Normal.{Form, combined, is_constant, form, on_the_way, is_low, fits, parts_of}
+use Rattle.term_trees.specs.Same.{passes}
+use Rattle.term_trees.specs.Linear.{Parts, limited, joined, joined_product, linear_parts}
+use Rattle.term_trees.proofs.LinearForms.{form-roll, Covers, form-covers, linear-num, linear-add, linear-sub, linear-mul}
 use Rattle.equality_rules.specs.Equality.{together}
 use Rattle.equality_rules.specs.Linear.{concluded_term, is_equation, weighed_term, weighted, sum_after, weighted_sum, is_bounded, is_remainder, is_sum, is_linear}
 use Rattle.equality_rules.specs.Sums.{concluded_form, scaled, total_after, agrees, remains}

@@ -1,15 +1,12 @@
 -- Each rule keeps truth, in the order of the rules.
-use Rattle.std.proofs.Common.{◌≡◌, ℕ, ◌-◌, ◌<◌, ◌≤◌, ℤ, Bool, true, false, ◌&&◌, ◌||◌, IsTrue, List, [], ◌∷◌, Option, Some, None, refl, sym, ap, ap₂, subst, ◌∙◌, true≢false, arith}
+use Rattle.std.proofs.Common.{◌≡◌, ◌-◌, Bool, true, ◌&&◌, ◌||◌, IsTrue, List, [], ◌∷◌, Option, Some, None, refl, sym, ap₂, subst, true≢false, arith}
 use Rattle.std.specs.Option.{option_and_then}
 use Rattle.std.specs.List.{All}
-use Rattle.wasm_values.specs.declared.number.ValType.{ValType}
-use Rattle.wasm_values.specs.declared.number.IntOp.{IntOp}
-use Rattle.wasm_values.specs.declared.number.NumOp.{NumOp}
 use Rattle.wasm_values.specs.Operators.{width_of}
 use Rattle.term_trees.specs.declared.term.Term.{Term}
 use Rattle.term_trees.specs.declared.term.Formula.{Formula}
 use Rattle.term_trees.specs.Meaning.{Numbers, holds}
-use Rattle.term_trees.specs.Same.{passes, same_formula}
+use Rattle.term_trees.specs.Same.{passes}
 use Rattle.term_trees.specs.Terms.{is_low_width, is_sext_pair}
 use Rattle.term_trees.specs.Views.{num_of, one_of, low_of, sext_of, sgn_of, le_of}
 use Rattle.term_trees.specs.declared.term.Term.TheVariants as term
@@ -18,18 +15,15 @@ use Rattle.term_trees.proofs.Truths.{both}
 use Rattle.integer_rules.specs.declared.rule.IntegerRule.{IntegerRule}
 use Rattle.integer_rules.specs.declared.rule.IntegerRule.TheVariants as rule
 use Rattle.integer_rules.specs.Rows.{Row, range_row, add_row, addwrap_row, sub_row, subwrap_row, mul_row, divu_row, divs_row, unsigned_claim, signed_claim, test_row, zero_row, tests_row, sgn_row, shift_as, shift_row, mask_row, changed, changed_row, low_row, sext_row}
-use Rattle.integer_rules.specs.Fits.{sized, applied, left_of, right_of, first_of, last_of, equated, test_in, remainder_in, width_with, is_among, exponent, limit_of, same_formulas, fits_row, fits_range, fits_add, fits_addwrap, fits_sub, fits_subwrap, fits_mul, fits_divu, fits_divs, fits_zero, fits_compared, fits_test, fits_tests, fits_sgn, fits_shift, fits_mask, fits_changed, fits_low, fits_sext, fits_widen, fits}
+use Rattle.integer_rules.specs.Fits.{sized, applied, left_of, right_of, first_of, last_of, equated, test_in, remainder_in, width_with, is_among, limit_of, same_formulas, fits_row, fits_range, fits_add, fits_addwrap, fits_sub, fits_subwrap, fits_mul, fits_divu, fits_divs, fits_zero, fits_compared, fits_test, fits_tests, fits_sgn, fits_shift, fits_some_mask, fits_mask, fits_changed, fits_low, fits_sext, fits_widen, fits}
 use Rattle.integer_rules.specs.Truth.{KeepsTruth}
-use Rattle.integer_rules.proofs.RowLaws.{RowHolds, bits_positive, sound_range, sound_add, sound_addwrap, sound_sub, sound_subwrap, sound_mul, sound_divu, sound_divs, sound_test, sound_zero, sound_tests, sound_sgn, sound_shift, sound_mask, sound_changed, sound_low, sound_sext, exponent-le}
+use Rattle.integer_rules.proofs.Ranges.{either, passing}
+use Rattle.integer_rules.proofs.RowLaws.{RowHolds, bits_positive, sound_range, sound_add, sound_addwrap, sound_sub, sound_subwrap, sound_mul, sound_divu, sound_divs, sound_test, sound_zero, sound_tests, sound_sgn, sound_shift, sound_mask, sound_changed, sound_low, sound_sext}
 
 -- what a test that passed shows
 passed : {X : Type 0} (o : Option X) (test : X → Bool) (Q : Type 0) → IsTrue (passes o test) → ((x : X) → o ≡ Some x → IsTrue (test x) → Q) → Q
 passed None test Q h then = absurd (true≢false (sym h))
 passed (Some x) test Q h then = then x refl h
-
-either : (a b : Bool) (Q : Type 0) → (a || b) ≡ true → (a ≡ true → Q) → (b ≡ true → Q) → Q
-either true b Q h left right = left refl
-either false b Q h left right = right h
 
 same_formulas-exact : (fs gs : List Formula) → same_formulas fs gs ≡ true → fs ≡ gs
 same_formulas-exact [] [] h = refl
@@ -110,14 +104,12 @@ module _ (n : Numbers) (premises : List Formula) (c : Formula) (hold : All (λ f
       let p = both (is_among x.0 k) (fits_row (shift_row x.0 x.1 r x.2 k) premises c) test in
       by_row (shift_row x.0 x.1 r x.2 k) (sound_shift n x.0 x.2 x.1 r k other p.0) p.1)))
 
-  below_width : (v : ValType) (k : ℕ) → k ≤ width_of v - 1 → k < width_of v
-  below_width v k h = omega (arith, bits_positive v)
-
   keeps_mask : IsTrue (fits_mask premises c) → Holds
+  unfolding fits_some_mask
   keeps_mask h =
-      passed (option_and_then applied (right_of c)) (λ x. passes (num_of x.3) (λ p. passes (exponent (width_of x.0 - 1) p) (λ k. fits_row (mask_row x.0 x.2 k) premises c))) Holds h (λ x is test.
-      passed (num_of x.3) (λ p. passes (exponent (width_of x.0 - 1) p) (λ k. fits_row (mask_row x.0 x.2 k) premises c)) Holds test (λ p number test.
-      by_rows (exponent (width_of x.0 - 1) p) (mask_row x.0 x.2) (λ k found. sound_mask n x.0 x.2 k (below_width x.0 k (exponent-le (width_of x.0 - 1) p k found))) test))
+      passed (option_and_then applied (right_of c)) (λ x. fits_some_mask x.0 x.2 premises c) Holds h (λ x is test.
+      passing (λ k. fits_row (mask_row x.0 x.2 k) premises c) Holds 1 (width_of x.0 - 1) test
+      (λ k low high fit. by_row (mask_row x.0 x.2 k) (sound_mask n x.0 x.2 k (omega (arith, bits_positive x.0))) fit))
 
   keeps_changed : IsTrue (fits_changed premises c) → Holds
   keeps_changed h =

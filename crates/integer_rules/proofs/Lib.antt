@@ -1,5 +1,6 @@
 pub mod FitLaws
 pub mod Operations
+pub mod Ranges
 pub mod RowLaws
 pub mod Shapes
 pub mod TakenRows

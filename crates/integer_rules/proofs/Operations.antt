@@ -5,7 +5,7 @@ use Rattle.std.specs.Ordering.{int_eq}
 use Rattle.std.proofs.lemmas.Int.{ints}
 use Rattle.std.proofs.lemmas.Nat.{pow_pos, mul-mod, mod_below, pow_below, and_mask, mod-pow-add}
 use Rattle.std.proofs.lemmas.Bool.{ne_eqb, cond-false, cond-true}
-use Rattle.std.proofs.Math.Nat.{mod-eq_of_lt, add-mod_right, mod-eq-sub-mod, div-add-mod, mod-lt}
+use Rattle.std.proofs.Math.Nat.{mod-eq_of_lt, add-mod_right, mod-eq-sub-mod, div-add-mod}
 use Rattle.wasm_values.specs.declared.number.IntOp.{IntOp}
 use Rattle.wasm_values.specs.declared.number.IntOp.TheVariants as op
 use Rattle.wasm_values.specs.Operators.{binary, unary, signed, unsigned, quotient, remainder, sign_extended, truth, count_positions}
@@ -22,7 +22,7 @@ use Rattle.wasm_values.specs.declared.number.NumOp.{NumOp}
 use Rattle.wasm_values.specs.declared.number.NumOp.TheVariants.{W32, W64, Wrap, ExtendS, ExtendU}
 use Rattle.wasm_values.specs.Operators.{num_width, num_unary, num_binary}
 use Rattle.wasm_values.proofs.RangeLaws.{num_unary-lt, sign_extended-lt}
-use Rattle.term_trees.specs.Terms.{is_low_width, is_sext_pair}
+use Rattle.term_trees.specs.Terms.{is_sext_pair}
 use Rattle.integer_rules.specs.Rows.{limit, shift_as}
 use Rattle.term_trees.specs.Meaning.{modulo}
 use Rattle.integer_rules.specs.Rows.{limited}

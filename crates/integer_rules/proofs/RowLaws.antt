@@ -1,6 +1,5 @@
--- Each row keeps truth, in the order of the rules.
-use Rattle.std.proofs.Common.{◌≡◌, ℕ, zero, suc, ◌+◌, ◌-◌, ◌*◌, ◌/◌, ◌%◌, ◌^◌, ◌<◌, ◌≤◌, ℤ, pos, negsuc, ◌+ℤ◌, ◌-ℤ◌, ◌*ℤ◌, ◌≤ℤ◌, ◌<ℤ◌, int_lt, int_le, Bool, true, false, not, ◌&&◌, IsTrue, List, [], ◌∷◌, Option, Some, None, refl, sym, ap, ap₂, subst, ◌∙◌, inl, inr, ⊎_elim, arith}
-use Rattle.std.specs.Prelude.{◌⊎◌}
+-- Each row keeps truth: first a range, then the rows at two terms, those at one, and the changes of width.
+use Rattle.std.proofs.Common.{◌≡◌, ℕ, ◌-◌, ◌^◌, ◌<◌, ◌≤◌, ℤ, pos, ◌+ℤ◌, ◌-ℤ◌, ◌*ℤ◌, ◌≤ℤ◌, ◌<ℤ◌, int_lt, int_le, Bool, true, false, not, IsTrue, [], ◌∷◌, Some, None, refl, sym, ap, ap₂, subst, ◌∙◌, ⊎_elim, arith}
 use Rattle.std.specs.List.{All}
 use Rattle.std.specs.Ordering.{int_eq}
 use Rattle.std.proofs.lemmas.List.Elements.{All-head, All-tail}
@@ -25,8 +24,8 @@ use Rattle.std.proofs.lemmas.Float.{T_from_true}
 use Rattle.std.proofs.lemmas.Int.{ints}
 use Rattle.std.proofs.lemmas.Nat.{pow_pos}
 use Rattle.std.proofs.lemmas.Option.{same_Some}
-use Rattle.integer_rules.specs.Rows.{Row, operator, greatest, modulus, half, greatest_signed, at_least, at_most, add_row, addwrap_row, sub_row, subwrap_row, mul_row, divu_row, divs_row, unsigned_claim, signed_claim, test_row, zero_row, tests_row, sgn_row, range_row, shift_as, shift_row, mask_row, changed, changed_row, low_row, sext_row}
-use Rattle.integer_rules.specs.Fits.{limit_here, limit_of, is_among, exponent}
+use Rattle.integer_rules.specs.Rows.{Row, operator, greatest, modulus, half, greatest_signed, add_row, addwrap_row, sub_row, subwrap_row, mul_row, divu_row, divs_row, unsigned_claim, signed_claim, test_row, zero_row, tests_row, sgn_row, range_row, shift_as, shift_row, mask_row, changed, changed_row, low_row, sext_row}
+use Rattle.integer_rules.specs.Fits.{limit_here, limit_of, is_among}
 use Rattle.integer_rules.proofs.Operations.{given, add_given, addwrap_given, sub_given, subwrap_given, mul_given, divu_law, divs_law, eq_given, ne_given, lt_given, gt_given, le_given, ge_given, eqz_given, unary_le, binary_le, modulo-lt, sext_le, pair_bounds, sgn_given, sext_given, low_given, shift_law, mask_given, wrap_given}
 use Rattle.integer_rules.proofs.Values.{value-num, value-add, value-sub, value-mul, value-one, value-low, value-sext, value-operator, value-operator_one, value-sgn, holds-eq, holds-le, holds-lt, holds-not, equal, least, most, is_least, is_most, ordered, below, is_below, conjoined, first_case, second_case, chosen}
 
@@ -50,6 +49,27 @@ module _ (n : Numbers) where
 
   four : (f g h k : Formula) → All Holds (f ∷ g ∷ h ∷ k ∷ []) → Holds f × Holds g × Holds h × Holds k
   four f g h k all = let rest = three g h k (All-tail Holds f (g ∷ h ∷ k ∷ []) all) in (All-head Holds f (g ∷ h ∷ k ∷ []) all, rest.0, rest.1, rest.2)
+
+  -- the value of one layer
+  abbrev layer_value : Term-F Term → ℤ
+  layer_value l = value_here n (map-Term Term ℤ (value n) l)
+
+  at_limit : (x : ℕ) (b : Bool) (y : ℕ) (m : ℤ) → (b ≡ true → x ≤ y) → (if b then Some (pos y) else None) ≡ Some m → (pos 0 ≤ℤ pos x) × (pos x ≤ℤ m)
+  at_limit x true y m within is = (omega (arith, ints), subst (λ z. pos x ≤ℤ z) (same_Some (pos y) m is) (let h : x ≤ y = within refl in omega (arith, ints)))
+  at_limit x false y m within is = cc
+
+  bounded_layer : (l : Term-F Term) (m : ℤ) → limit_here l ≡ Some m → (pos 0 ≤ℤ layer_value l) × (layer_value l ≤ℤ m)
+  bounded_layer (layer.One o a) m is = at_limit _ true _ m (λ e. unary_le o (value n a)) is
+  bounded_layer (layer.Two o a b) m is = at_limit _ true _ m (λ e. binary_le o (value n a) (value n b)) is
+  bounded_layer (layer.Low k a) m is = at_limit _ (is_low_width k) (2 ^ k - 1) m (λ e. omega (arith, modulo-lt (value n a) (2 ^ k) (pow_pos k))) is
+  bounded_layer (layer.Sext k w a) m is = at_limit _ (is_sext_pair k w) (2 ^ w - 1) m (λ e. sext_le k w (value n a) e) is
+  bounded_layer _ m is = cc
+
+  pub sound_range : (t : Term) (m : ℤ) → limit_of t ≡ Some m → RowHolds (range_row t m)
+  sound_range t m is all =
+      let out : value n t ≡ layer_value (out-Term t) = fold_out-Term ℤ (value_here n) t in
+      let bounds = bounded_layer (out-Term t) m is in
+      conjoined n _ _ (is_least n (pos 0) t (subst (λ z. pos 0 ≤ℤ z) (sym out) bounds.0)) (is_most n t m (subst (λ z. z ≤ℤ m) (sym out) bounds.1))
 
   module _ (v : ValType) (a b : Term) where
     pub sound_add : RowHolds (add_row v a b)
@@ -175,27 +195,6 @@ module _ (n : Numbers) where
         ∙ mask_given (width_of v) k (value n a) less
         ∙ sym (value-operator n v op.RemU a (term.Num (pos (2 ^ k))) ∙ ap (given (width_of v) op.RemU (value n a)) (value-num n (pos (2 ^ k)))))
 
-  -- the value of one layer
-  abbrev layer_value : Term-F Term → ℤ
-  layer_value l = value_here n (map-Term Term ℤ (value n) l)
-
-  at_limit : (x : ℕ) (b : Bool) (y : ℕ) (m : ℤ) → (b ≡ true → x ≤ y) → (if b then Some (pos y) else None) ≡ Some m → (pos 0 ≤ℤ pos x) × (pos x ≤ℤ m)
-  at_limit x true y m within is = (omega (arith, ints), subst (λ z. pos x ≤ℤ z) (same_Some (pos y) m is) (let h : x ≤ y = within refl in omega (arith, ints)))
-  at_limit x false y m within is = cc
-
-  bounded_layer : (l : Term-F Term) (m : ℤ) → limit_here l ≡ Some m → (pos 0 ≤ℤ layer_value l) × (layer_value l ≤ℤ m)
-  bounded_layer (layer.One o a) m is = at_limit _ true _ m (λ e. unary_le o (value n a)) is
-  bounded_layer (layer.Two o a b) m is = at_limit _ true _ m (λ e. binary_le o (value n a) (value n b)) is
-  bounded_layer (layer.Low k a) m is = at_limit _ (is_low_width k) (2 ^ k - 1) m (λ e. omega (arith, modulo-lt (value n a) (2 ^ k) (pow_pos k))) is
-  bounded_layer (layer.Sext k w a) m is = at_limit _ (is_sext_pair k w) (2 ^ w - 1) m (λ e. sext_le k w (value n a) e) is
-  bounded_layer _ m is = cc
-
-  pub sound_range : (t : Term) (m : ℤ) → limit_of t ≡ Some m → RowHolds (range_row t m)
-  sound_range t m is all =
-      let out : value n t ≡ layer_value (out-Term t) = fold_out-Term ℤ (value_here n) t in
-      let bounds = bounded_layer (out-Term t) m is in
-      conjoined n _ _ (is_least n (pos 0) t (subst (λ z. pos 0 ≤ℤ z) (sym out) bounds.0)) (is_most n t m (subst (λ z. z ≤ℤ m) (sym out) bounds.1))
-
   -- ---- changes of width
 
   pub sound_changed : (o : NumOp) (a t : Term) → changed o a ≡ Some t → RowHolds (changed_row o a t)
@@ -222,13 +221,3 @@ module _ (n : Numbers) where
       (λ (h : (pos (2 ^ (k - 1)) ≤ℤ value n a) × (pos (sign_extended k w (modulo (value n a) (2 ^ k))) ≡ value n a +ℤ d)).
       second_case n _ _ (conjoined n _ _ (is_least n (pos (2 ^ (k - 1))) a h.0) (equal n s (term.Add a (term.Num d)) (value-sext n k w a ∙ h.1 ∙ sym (value-add n a (term.Num d) ∙ ap (λ z. value n a +ℤ z) (value-num n d))))))
       (sext_given k w (value n a) widths.0 widths.1 (least n (pos 0) a p.0) (most n a (pos (2 ^ k - 1)) p.1))
-
--- an exponent that is found is at most the one that the search began with
-found : (b : Bool) (n k : ℕ) (o : Option ℕ) → (o ≡ Some k → k ≤ n) → (if b then Some (suc n) else o) ≡ Some k → k ≤ suc n
-found true n k o below is = let same : suc n ≡ k = same_Some (suc n) k is in omega arith
-found false n k o below is = omega (arith, below is)
-
-pub exponent-le : (n : ℕ) (p : ℤ) (k : ℕ) → exponent n p ≡ Some k → k ≤ n
-unfolding exponent
-exponent-le zero p k is = cc
-exponent-le (suc n) p k is = found (int_eq p (pos (2 ^ suc n))) n k (exponent n p) (exponent-le n p k) is

@@ -1,13 +1,13 @@
 -- What it takes to be a term or a formula of a known outermost form.
-use Rattle.std.proofs.Common.{◌≡◌, ℕ, ℤ, Bool, ◌&&◌, ◌==◌, refl, sym, ap, ◌∙◌}
+use Rattle.std.proofs.Common.{◌≡◌, ℕ, ℤ, Bool, ◌&&◌, ◌==◌, sym, ap, ◌∙◌}
 use Rattle.std.specs.Ordering.{int_eq}
 use Rattle.wasm_values.specs.declared.number.NumOp.{NumOp}
 use Rattle.wasm_values.specs.contracts.number.NumOpPartialEq.TheImpl as operator
-use Rattle.term_trees.specs.declared.term.Term.{Term, roll-Term, fold-roll-Term}
+use Rattle.term_trees.specs.declared.term.Term.{Term, fold-roll-Term}
 use Rattle.term_trees.specs.declared.term.Term.TheOpen as layer
 use Rattle.term_trees.specs.declared.term.Term.TheOpen.{Term-F}
 use Rattle.term_trees.specs.declared.term.Term.TheVariants as term
-use Rattle.term_trees.specs.declared.term.Formula.{Formula, roll-Formula, fold-roll-Formula}
+use Rattle.term_trees.specs.declared.term.Formula.{Formula, fold-roll-Formula}
 use Rattle.term_trees.specs.declared.term.Formula.TheOpen as open_form
 use Rattle.term_trees.specs.declared.term.Formula.TheVariants as formula
 use Rattle.term_trees.specs.Views.{num_of, sum_of, difference_of, product_of, one_of, two_of, low_of, sext_of, sgn_of, eq_of, le_of, lt_of, not_of, and_of, or_of}

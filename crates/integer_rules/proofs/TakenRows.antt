@@ -1,11 +1,6 @@
 -- Each row of the rules is an instance of its rule.
-use Rattle.std.proofs.Common.{◌≡◌, ℕ, zero, suc, ◌+◌, ◌-◌, ◌^◌, ◌<◌, ◌≤◌, ℤ, pos, Bool, true, false, ◌&&◌, ◌||◌, IsTrue, List, [], ◌∷◌, Option, Some, None, refl, sym, ap, ap₂, subst, ◌∙◌, inl, inr, ⊎_elim, true≢false, arith}
-use Rattle.std.specs.Prelude.{◌⊎◌, if◌then◌else◌}
+use Rattle.std.proofs.Common.{◌≡◌, ℕ, ◌-◌, ◌^◌, ◌<◌, ◌≤◌, ℤ, pos, Bool, true, ◌&&◌, ◌||◌, IsTrue, List, [], ◌∷◌, Option, Some, refl, ap, ◌∙◌, arith}
 use Rattle.std.specs.Option.{option_map, option_and_then}
-use Rattle.std.specs.Ordering.{int_eq}
-use Rattle.std.proofs.lemmas.Bool.{cases_eq, cond-true, cond-false}
-use Rattle.std.proofs.lemmas.Bool.Decides.{Decides-int_eq}
-use Rattle.std.proofs.lemmas.Nat.{pow_below}
 use Rattle.wasm_values.specs.declared.number.ValType.{ValType}
 use Rattle.wasm_values.specs.declared.number.ValType.TheVariants.{I32, I64}
 use Rattle.wasm_values.specs.declared.number.IntOp.{IntOp}
@@ -18,12 +13,13 @@ use Rattle.term_trees.specs.declared.term.Formula.{Formula}
 use Rattle.term_trees.specs.declared.term.Formula.TheVariants as formula
 use Rattle.term_trees.specs.Same.{passes, same_formula}
 use Rattle.term_trees.specs.Terms.{is_low_width, is_sext_pair}
-use Rattle.term_trees.specs.Views.{num_here, num_of, one_here, one_of, two_here, two_of, low_here, low_of, sext_here, sext_of, sgn_here, sgn_of, eq_here, eq_of, le_here, le_of, lt_here, lt_of, and_here, and_of, or_here, or_of}
+use Rattle.term_trees.specs.Views.{num_here, num_of, one_here, one_of, two_here, low_here, low_of, sext_here, sext_of, sgn_here, sgn_of, eq_here, eq_of, le_here, le_of, lt_here, lt_of, and_here, and_of, or_here, or_of}
 use Rattle.term_trees.proofs.Sameness.{same_formula-refl}
 use Rattle.integer_rules.specs.declared.rule.IntegerRule.TheVariants as rule
-use Rattle.integer_rules.specs.Rows.{Row, operator, at_least, at_most, remainder_bounds, choice, range_row, add_row, addwrap_row, sub_row, subwrap_row, mul_row, divu_row, divs_row, unsigned_claim, signed_claim, test_row, zero_row, tests_row, sgn_row, shift_as, shift_row, mask_row, changed, changed_row, low_row, sext_row}
-use Rattle.integer_rules.specs.Fits.{sized, applied, left_of, right_of, first_of, last_of, equated, test_in, remainder_in, width_with, is_among, exponent, limit_of, same_formulas, fits_row, fits_zero, fits_compared, fits_changed, fits_low, fits_sext, fits}
+use Rattle.integer_rules.specs.Rows.{Row, operator, at_least, at_most, choice, range_row, add_row, addwrap_row, sub_row, subwrap_row, mul_row, divu_row, divs_row, unsigned_claim, signed_claim, test_row, zero_row, tests_row, sgn_row, shift_as, shift_row, mask_row, changed, changed_row, low_row, sext_row}
+use Rattle.integer_rules.specs.Fits.{sized, applied, left_of, right_of, first_of, last_of, equated, test_in, remainder_in, width_with, is_among, limit_of, same_formulas, fits_row, fits_zero, fits_compared, fits_some_mask, fits_changed, fits_low, fits_sext, fits}
 use Rattle.integer_rules.specs.Truth.{Takes}
+use Rattle.integer_rules.proofs.Ranges.{passes_at}
 use Rattle.integer_rules.proofs.Values.{both_true, left_true, right_true}
 
 -- ---- rows fit themselves
@@ -96,24 +92,6 @@ num_of-num k = ap num_here (term.outs-Num k)
 
 one_of-one : (o : NumOp) (a : Term) → one_of (term.One o a) ≡ Some (o, a)
 one_of-one o a = ap one_here (term.outs-One o a)
-
--- a power is found by its exponent
-other_power : (j k : ℕ) → j < k → int_eq (pos (2 ^ j)) (pos (2 ^ k)) ≡ false
-other_power j k less = by (int_eq (pos (2 ^ j)) (pos (2 ^ k))) refl
-  where
-    by : (b : Bool) → int_eq (pos (2 ^ j)) (pos (2 ^ k)) ≡ b → b ≡ false
-    by true is = let same : pos (2 ^ j) ≡ pos (2 ^ k) = (Decides-int_eq (pos (2 ^ j)) (pos (2 ^ k))).0 is in
-        let powers : 2 ^ j ≡ 2 ^ k = cc in absurd (omega (arith, pow_below j k less))
-    by false is = refl
-
-exponent-power : (n k : ℕ) → 1 ≤ k → k ≤ n → exponent n (pos (2 ^ k)) ≡ Some k
-unfolding exponent
-exponent-power zero k low high = absurd (omega arith)
-exponent-power (suc n) k low high =
-    let rest = λ (h : k ≤ n). exponent-power n k low h in
-    ⊎_elim (λ (e : k ≡ suc n). ap (λ t. if t then Some (suc n) else exponent n (pos (2 ^ k))) ((Decides-int_eq (pos (2 ^ k)) (pos (2 ^ suc n))).1 (ap (λ j. pos (2 ^ j)) e)) ∙ ap Some (sym e))
-    (λ (ne : k ≡ suc n → ⊥). ap (λ t. if t then Some (suc n) else exponent n (pos (2 ^ k))) (other_power k (suc n) (omega arith)) ∙ rest (omega arith))
-    (cases_eq k (suc n))
 
 -- ---- each rule
 
@@ -216,14 +194,13 @@ module _ (v : ValType) (a : Term) where
       (both_true (is_among v k) (fits_row r r.premises r.conclusion) among (itself r))))
 
   pub takes_mask : (k : ℕ) → 1 ≤ k → k < width_of v → Takes rule.Mask (mask_row v a k)
-  unfolding fits
+  unfolding fits fits_some_mask
   takes_mask k low high =
       let r = mask_row v a k in
-      let p = pos (2 ^ k) in
-      found (option_and_then applied (right_of r.conclusion)) (v, op.RemU, a, term.Num p) (λ x. passes (num_of x.3) (λ p. passes (exponent (width_of x.0 - 1) p) (λ k. fits_row (mask_row x.0 x.2 k) r.premises r.conclusion)))
-      (ap (option_and_then applied) (right_of-eq _ _) ∙ applied-operator v op.RemU a (term.Num p))
-      (found (num_of (term.Num p)) p (λ p. passes (exponent (width_of v - 1) p) (λ k. fits_row (mask_row v a k) r.premises r.conclusion)) (num_of-num p)
-      (found (exponent (width_of v - 1) p) k (λ k. fits_row (mask_row v a k) r.premises r.conclusion) (exponent-power (width_of v - 1) k low (omega arith)) (itself r)))
+      let divisor = term.Num (pos (2 ^ k)) in
+      found (option_and_then applied (right_of r.conclusion)) (v, op.RemU, a, divisor) (λ x. fits_some_mask x.0 x.2 r.premises r.conclusion)
+      (ap (option_and_then applied) (right_of-eq _ _) ∙ applied-operator v op.RemU a divisor)
+      (passes_at (λ j. fits_row (mask_row v a j) r.premises r.conclusion) 1 (width_of v - 1) k low (omega arith) (itself r))
 
 pub takes_changed : (o : NumOp) (a t : Term) → changed o a ≡ Some t → Takes rule.Widen (changed_row o a t)
 unfolding fits

@@ -1,20 +1,17 @@
 -- Whether premises and a conclusion are those of a row: the width and the terms are read off the conclusion.
-use Rattle.std.specs.Prelude.{ℕ, zero, suc, ◌-◌, ◌^◌, ℤ, pos, int_le, Bool, true, false, ◌&&◌, ◌||◌, ◌==◌, if◌then◌else◌, List, [], ◌∷◌, Option, Some, None}
+use Rattle.std.specs.Prelude.{ℕ, ◌-◌, ◌^◌, ℤ, pos, int_le, Bool, true, false, ◌&&◌, ◌||◌, ◌==◌, if◌then◌else◌, List, [], ◌∷◌, Option, Some, None}
 use Rattle.std.specs.Option.{option_map, option_and_then}
-use Rattle.std.specs.Ordering.{int_eq}
+use Rattle.std.specs.List.{list_any, range_with_len}
 use Rattle.wasm_values.specs.declared.number.ValType.{ValType}
 use Rattle.wasm_values.specs.declared.number.ValType.TheVariants.{I32, I64}
 use Rattle.wasm_values.specs.declared.number.IntOp.{IntOp}
-use Rattle.wasm_values.specs.declared.number.IntOp.TheVariants as op
 use Rattle.wasm_values.specs.declared.number.NumOp.{NumOp}
-use Rattle.wasm_values.specs.declared.number.NumOp.TheVariants.{W32, W64, Wrap, ExtendS, ExtendU}
-use Rattle.wasm_values.specs.Operators.{width_of, is_test, result_type}
+use Rattle.wasm_values.specs.declared.number.NumOp.TheVariants.{W32, W64}
+use Rattle.wasm_values.specs.Operators.{width_of}
 use Rattle.term_trees.specs.declared.term.Term.{Term, Term-F, out-Term}
 use Rattle.term_trees.specs.declared.term.Term.TheOpen as layer
 use Rattle.term_trees.specs.declared.term.Term.TheVariants as term
 use Rattle.term_trees.specs.declared.term.Formula.{Formula}
-use Rattle.term_trees.specs.declared.term.Formula.TheVariants as formula
-use Rattle.term_trees.specs.Meaning.{modulo}
 use Rattle.term_trees.specs.Same.{passes, same_formula}
 use Rattle.term_trees.specs.Terms.{is_low_width, is_sext_pair}
 use Rattle.term_trees.specs.Views.{num_of, one_of, two_of, low_of, sext_of, sgn_of, eq_of, le_of, lt_of, and_of, or_of}
@@ -79,11 +76,6 @@ width_with n = if n == 32 then Some I32 else (if n == 64 then Some I64 else None
 -- Whether the width's numbers have k among them.
 abbrev pub is_among : ValType → ℤ → Bool
 is_among v k = int_le (pos 0) k && int_le k (greatest v)
-
--- Which power of 2, from the first to the n-th, the number is.
-unfoldable pub exponent : ℕ → ℤ → Option ℕ
-exponent zero p = None
-exponent (suc k) p = if int_eq p (pos (2 ^ suc k)) then Some (suc k) else exponent k p
 
 -- The greatest value that a term may have, by its outermost form.
 abbrev pub limit_here : Term-F Term → Option ℤ
@@ -160,10 +152,13 @@ abbrev pub fits_shift : List Formula → Formula → Bool
 fits_shift premises c =
     passes (equated c) (λ x. passes (shift_as x.1) (λ r. passes (num_of x.3) (λ k. is_among x.0 k && fits_row (shift_row x.0 x.1 r x.2 k) premises c)))
 
--- `mask`, with the remainder on the right of the equation, by 2 to a k from 1 to one less than the bits of the width
+-- `mask` at a term, with some number of low digits from 1 to N - 1
+unfoldable pub fits_some_mask : ValType → Term → List Formula → Formula → Bool
+fits_some_mask v a premises c = list_any (λ k. fits_row (mask_row v a k) premises c) (range_with_len 1 (width_of v - 1))
+
+-- `mask`, at the term that the operator on the right of the equation is applied to
 abbrev pub fits_mask : List Formula → Formula → Bool
-fits_mask premises c =
-    passes (option_and_then applied (right_of c)) (λ x. passes (num_of x.3) (λ p. passes (exponent (width_of x.0 - 1) p) (λ k. fits_row (mask_row x.0 x.2 k) premises c)))
+fits_mask premises c = passes (option_and_then applied (right_of c)) (λ x. fits_some_mask x.0 x.2 premises c)
 
 -- `widen` with a change between the widths
 abbrev pub fits_changed : List Formula → Formula → Bool

@@ -1,5 +1,5 @@
 -- What the rules keep.
-use Rattle.std.specs.Prelude.{◌≡◌, true, List, IsTrue}
+use Rattle.std.specs.Prelude.{List, IsTrue}
 use Rattle.std.specs.List.{All}
 use Rattle.term_trees.specs.declared.term.Formula.{Formula}
 use Rattle.term_trees.specs.Meaning.{Numbers, holds}

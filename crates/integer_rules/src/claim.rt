@@ -85,6 +85,33 @@ fn is_difference(table: &TermTable, a: TermId, b: TermId, id: TermId) -> bool
     }
 }
 
+/// Whether the term is the product.
+#[tactic(auto, using(crate::proofs::Shapes::term_shapes))]
+fn is_product(table: &TermTable, a: TermId, b: TermId, id: TermId) -> bool
+    requires first { a < length table.now }
+    requires second { b < length table.now }
+    requires within { id < length table.now }
+    ensures { result ≡ same (term.Mul (tree_at table.now a) (tree_at table.now b)) (tree_at table.now id) }
+{
+    match table.product_of(id) {
+        Some((c, d)) => table.same_tree(a, c) && table.same_tree(b, d),
+        None => false,
+    }
+}
+
+/// Whether the term is the operator at the operand.
+#[tactic(auto, using(crate::proofs::Shapes::term_shapes))]
+fn is_one(table: &TermTable, op: NumOp, a: TermId, id: TermId) -> bool
+    requires operand { a < length table.now }
+    requires within { id < length table.now }
+    ensures { result ≡ same (term.One op (tree_at table.now a)) (tree_at table.now id) }
+{
+    match table.one_of(id) {
+        Some((other, c)) => op == other && table.same_tree(a, c),
+        None => false,
+    }
+}
+
 /// Whether the term is the operator at the operands.
 #[tactic(auto, using(crate::proofs::Shapes::term_shapes))]
 fn is_two(table: &TermTable, op: NumOp, a: TermId, b: TermId, id: TermId) -> bool
@@ -95,6 +122,58 @@ fn is_two(table: &TermTable, op: NumOp, a: TermId, b: TermId, id: TermId) -> boo
 {
     match table.two_of(id) {
         Some((other, c, d)) => op == other && table.same_tree(a, c) && table.same_tree(b, d),
+        None => false,
+    }
+}
+
+/// Whether the term is the operator at the operand and the number.
+#[tactic(auto, using(crate::proofs::Shapes::term_shapes))]
+fn is_two_number(table: &TermTable, op: NumOp, a: TermId, k: i128, id: TermId) -> bool
+    requires operand { a < length table.now }
+    requires within { id < length table.now }
+    ensures { result ≡ same (term.Two op (tree_at table.now a) (term.Num k)) (tree_at table.now id) }
+{
+    match table.two_of(id) {
+        Some((other, c, d)) => op == other && table.same_tree(a, c) && is_number(table, k, d),
+        None => false,
+    }
+}
+
+/// Whether the term is the k low digits of the operand.
+#[tactic(auto, using(crate::proofs::Shapes::term_shapes))]
+fn is_low(table: &TermTable, k: u32, a: TermId, id: TermId) -> bool
+    requires operand { a < length table.now }
+    requires within { id < length table.now }
+    ensures { result ≡ same (term.Low k (tree_at table.now a)) (tree_at table.now id) }
+{
+    match table.low_of(id) {
+        Some((j, c)) => k == j && table.same_tree(a, c),
+        None => false,
+    }
+}
+
+/// Whether the term is the sign extension of the operand from k digits to n.
+#[tactic(auto, using(crate::proofs::Shapes::term_shapes))]
+fn is_sext(table: &TermTable, k: u32, n: u32, a: TermId, id: TermId) -> bool
+    requires operand { a < length table.now }
+    requires within { id < length table.now }
+    ensures { result ≡ same (term.Sext k n (tree_at table.now a)) (tree_at table.now id) }
+{
+    match table.sext_of(id) {
+        Some((j, m, c)) => k == j && n == m && table.same_tree(a, c),
+        None => false,
+    }
+}
+
+/// Whether the term is the signed reading of the operand at n digits.
+#[tactic(auto, using(crate::proofs::Shapes::term_shapes))]
+fn is_sgn(table: &TermTable, n: u32, a: TermId, id: TermId) -> bool
+    requires operand { a < length table.now }
+    requires within { id < length table.now }
+    ensures { result ≡ same (term.Sgn n (tree_at table.now a)) (tree_at table.now id) }
+{
+    match table.sgn_of(id) {
+        Some((m, c)) => n == m && table.same_tree(a, c),
         None => false,
     }
 }
@@ -126,10 +205,7 @@ pub(crate) fn is_side(table: &TermTable, side: Side, id: TermId) -> bool
         Side::Number(k) => is_number(table, k, id),
         Side::Sum(a, b) => is_sum(table, a, b, id),
         Side::Difference(a, b) => is_difference(table, a, b, id),
-        Side::Product(a, b) => match table.product_of(id) {
-            Some((c, d)) => table.same_tree(a, c) && table.same_tree(b, d),
-            None => false,
-        },
+        Side::Product(a, b) => is_product(table, a, b, id),
         Side::LessNumber(a, k) => match table.difference_of(id) {
             Some((c, d)) => table.same_tree(a, c) && is_number(table, k, d),
             None => false,
@@ -151,27 +227,12 @@ pub(crate) fn is_side(table: &TermTable, side: Side, id: TermId) -> bool
                 && is_two(table, operator(width, IntOp::RemU), a, b, d),
             None => false,
         },
-        Side::One(op, a) => match table.one_of(id) {
-            Some((other, c)) => op == other && table.same_tree(a, c),
-            None => false,
-        },
+        Side::One(op, a) => is_one(table, op, a, id),
         Side::Two(op, a, b) => is_two(table, op, a, b, id),
-        Side::TwoNumber(op, a, k) => match table.two_of(id) {
-            Some((other, c, d)) => op == other && table.same_tree(a, c) && is_number(table, k, d),
-            None => false,
-        },
-        Side::Low(k, a) => match table.low_of(id) {
-            Some((j, c)) => k == j && table.same_tree(a, c),
-            None => false,
-        },
-        Side::Sext(k, n, a) => match table.sext_of(id) {
-            Some((j, m, c)) => k == j && n == m && table.same_tree(a, c),
-            None => false,
-        },
-        Side::Sgn(n, a) => match table.sgn_of(id) {
-            Some((m, c)) => n == m && table.same_tree(a, c),
-            None => false,
-        },
+        Side::TwoNumber(op, a, k) => is_two_number(table, op, a, k, id),
+        Side::Low(k, a) => is_low(table, k, a, id),
+        Side::Sext(k, n, a) => is_sext(table, k, n, a, id),
+        Side::Sgn(n, a) => is_sgn(table, n, a, id),
     }
 }
 

@@ -1,8 +1,8 @@
-ghost use Rattle.std.specs.Prelude.{◌≡◌, ◌-◌, ◌^◌, ◌<◌, ◌≤◌, pos, ◌≤ℤ◌, IfSome};
+ghost use Rattle.std.specs.Prelude.{◌≡◌, ◌-◌, ◌^◌, ◌<◌, ◌≤◌, pos, ◌≤ℤ◌};
 ghost use Rattle.wasm_values.specs.Operators.{width_of};
 ghost use Rattle.term_trees.specs.Meaning.{modulo};
 ghost use Rattle.integer_rules.specs.Rows.{operator, greatest, modulus, half, greatest_signed, limit, limited, shift_as};
-ghost use Rattle.integer_rules.specs.Fits.{width_with, exponent};
+ghost use Rattle.integer_rules.specs.Fits.{width_with};
 
 use wasm_values::{IntOp, NumOp, ValType};
 
@@ -108,22 +108,6 @@ pub(crate) fn shift_as(op: IntOp) -> Option<IntOp>
         IntOp::Shl => Some(IntOp::Mul),
         IntOp::ShrU => Some(IntOp::DivU),
         _ => None,
-    }
-}
-
-/// Which power of 2, from the first to the n-th, the number is.
-#[tactic(auto, unfolding(crate::specs::Fits::exponent))]
-pub(crate) fn exponent(n: u32, p: i128) -> Option<u32>
-    requires { n < 64 }
-    ensures power { result ≡ exponent n p }
-    ensures within { IfSome result (λ k. k ≤ n) }
-{
-    if n == 0 {
-        None
-    } else if p == power(n) {
-        Some(n)
-    } else {
-        exponent(n - 1, p)
     }
 }
 

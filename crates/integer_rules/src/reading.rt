@@ -1,16 +1,17 @@
-ghost use Rattle.std.specs.Prelude.{◌≡◌, ◌≤◌, map, length};
+ghost use Rattle.std.specs.Prelude.{◌≡◌, ◌<◌, ◌≤◌, map, length};
 ghost use Rattle.std.specs.List.{All};
 ghost use Rattle.term_logic.specs.Formulas.{formula_bound, formula_of};
-ghost use Rattle.integer_rules.specs.Fits.{fits_range, fits_sgn, fits_shift, fits_mask};
+ghost use Rattle.term_logic.specs.Table.{tree_at};
+ghost use Rattle.integer_rules.specs.Rows.{mask_row};
+ghost use Rattle.integer_rules.specs.Fits.{fits_row, fits_range, fits_sgn, fits_shift, fits_some_mask, fits_mask};
 
 use crate::claim::{Claim, Side, are_claims, is_both, is_claim, is_split};
 use crate::numbers::{
-    bits, digits, exponent, greatest, greatest_signed, half, modulus, operator, power, shift_as,
-    width_with,
+    bits, digits, greatest, greatest_signed, half, modulus, operator, power, shift_as, width_with,
 };
 use crate::read::{applied, equated, first_of, last_of, left_of, limit_of, right_of};
-use term_logic::{IdFormula, TermTable};
-use wasm_values::IntOp;
+use term_logic::{IdFormula, TermId, TermTable};
+use wasm_values::{IntOp, ValType};
 
 /// Whether the conclusion bounds a term by its limits.
 pub(crate) fn is_range(table: &TermTable, premises: &[&IdFormula], conclusion: &IdFormula) -> bool
@@ -91,6 +92,48 @@ pub(crate) fn is_shift(table: &TermTable, premises: &[&IdFormula], conclusion: &
     is_claim(table, Claim::Eq(shifted, given), conclusion) && are_claims(table, &[], premises)
 }
 
+/// Whether a mask of k low digits is taken as a remainder by a power of 2.
+fn is_masked(
+    table: &TermTable,
+    width: ValType,
+    a: TermId,
+    k: u32,
+    premises: &[&IdFormula],
+    conclusion: &IdFormula,
+) -> bool
+    requires within { a < length table.now }
+    requires digits { k ≤ 64 }
+    requires premises { All (λ f. formula_bound f.now ≤ length table.now) premises.now }
+    requires conclusion { formula_bound conclusion.now ≤ length table.now }
+    ensures { result ≡ fits_row (mask_row width (tree_at table.now a) k) (map (λ f. formula_of table.now f.now) premises.now) (formula_of table.now conclusion.now) }
+{
+    let masked = Side::TwoNumber(operator(width, IntOp::And), a, power(k) - 1);
+    let given = Side::TwoNumber(operator(width, IntOp::RemU), a, power(k));
+    is_claim(table, Claim::Eq(masked, given), conclusion) && are_claims(table, &[], premises)
+}
+
+/// Whether a mask of fewer low digits than the width has, and at least one, is taken as a remainder.
+fn is_some_mask(
+    table: &TermTable,
+    width: ValType,
+    a: TermId,
+    premises: &[&IdFormula],
+    conclusion: &IdFormula,
+) -> bool
+    requires within { a < length table.now }
+    requires premises { All (λ f. formula_bound f.now ≤ length table.now) premises.now }
+    requires conclusion { formula_bound conclusion.now ≤ length table.now }
+    ensures { result ≡ fits_some_mask width (tree_at table.now a) (map (λ f. formula_of table.now f.now) premises.now) (formula_of table.now conclusion.now) }
+{
+    let count = bits(width);
+    for k in 1..count {
+        if is_masked(table, width, a, k, premises, conclusion) {
+            return true;
+        }
+    }
+    false
+}
+
 /// Whether a mask of low digits is taken as a remainder by a power of 2.
 pub(crate) fn is_mask(table: &TermTable, premises: &[&IdFormula], conclusion: &IdFormula) -> bool
     requires premises { All (λ f. formula_bound f.now ≤ length table.now) premises.now }
@@ -100,16 +143,8 @@ pub(crate) fn is_mask(table: &TermTable, premises: &[&IdFormula], conclusion: &I
     let Some(right) = right_of(table, conclusion) else {
         return false;
     };
-    let Some((width, _, a, divisor)) = applied(table, right) else {
-        return false;
-    };
-    let Some(divisor) = table.num_of(divisor) else {
-        return false;
-    };
-    let Some(k) = exponent(bits(width) - 1, divisor) else {
-        return false;
-    };
-    let masked = Side::TwoNumber(operator(width, IntOp::And), a, power(k) - 1);
-    let given = Side::TwoNumber(operator(width, IntOp::RemU), a, power(k));
-    is_claim(table, Claim::Eq(masked, given), conclusion) && are_claims(table, &[], premises)
+    match applied(table, right) {
+        Some((width, _, a, _)) => is_some_mask(table, width, a, premises, conclusion),
+        None => false,
+    }
 }

@@ -12,7 +12,7 @@ use Rattle.bitvector_rules.specs.declared.step.Step.{out-Step}
 use Rattle.derivation_check.proofs.FactLemmas.{extends_trans, within_more, goals_more, facts_kept, goals_kept, goals_tail, all_facts}
 use Rattle.derivation_check.proofs.Progress.{Progress, stopped, next}
 use Rattle.derivation_check.proofs.StepLemmas.{goal_then, goal_else, goal_met, instance_some, instance_none, subs_admissible, step_admissible, subs_tail, reached, ok_then, no_goals, trimmed}
-use Rattle.derivation_check.proofs.Weights.{weights_of, weight_at, weight_out}
+use Rattle.bitvector_rules.proofs.Weights.{weights_of, weight_at, weight_out}
 use Rattle.derivation_check.proofs.check.+check.Goals as goal
 
 -- ---- good_steps

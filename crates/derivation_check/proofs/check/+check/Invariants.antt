@@ -1,6 +1,6 @@
 use Rattle.std.proofs.Common.{◌+◌}
 use Rattle.derivation_check.proofs.Progress.{Progress}
-use Rattle.derivation_check.proofs.Weights.{weight, weights, weights_of}
+use Rattle.bitvector_rules.proofs.Weights.{weight, weights, weights_of}
 use Rattle.derivation_check.proofs.check.+check.Given as goal
 
 abbrev pub decreases-derives_goal : goal.decreases-derives_goal

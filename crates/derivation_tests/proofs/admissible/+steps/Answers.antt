@@ -1,7 +1,7 @@
 use Rattle.std.proofs.Common.{subst, ap, arith, IsTrue}
 use Rattle.std.specs.List.{list_all}
 use Rattle.bitvector_rules.specs.Steps.{all_admissible}
-use Rattle.derivation_check.proofs.Weights.{weights, weights_of, weight_out}
+use Rattle.bitvector_rules.proofs.Weights.{weights, weights_of, weight_out}
 use Rattle.derivation_tests.proofs.StepParts.{step_admissible}
 use Rattle.derivation_tests.proofs.admissible.+steps.Goals as goal
 

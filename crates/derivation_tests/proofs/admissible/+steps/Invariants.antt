@@ -1,5 +1,5 @@
 use Rattle.std.proofs.Common.{◌+◌}
-use Rattle.derivation_check.proofs.Weights.{weight, weights, weights_of}
+use Rattle.bitvector_rules.proofs.Weights.{weight, weights, weights_of}
 use Rattle.derivation_tests.proofs.admissible.+steps.Given as goal
 
 abbrev pub decreases-is_admissible : goal.decreases-is_admissible

@@ -1,7 +1,7 @@
 use Rattle.std.proofs.Common.{rules, ◌≡◌, Some, IfOk, subst}
 use Rattle.std.specs.Option.{option_map}
 use Rattle.term_logic.specs.Table.{tree_at}
-use Rattle.term_logic.specs.Linear.{shown_form, linear_parts}
+use Rattle.term_trees.specs.Linear.{shown_form, linear_parts}
 use Rattle.equality_rules.proofs.LinearTerms.{difference_form}
 use Rattle.equality_rules.proofs.linear.difference.Goals as goal
 

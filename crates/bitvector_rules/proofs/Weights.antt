@@ -1,4 +1,4 @@
--- A measure of the check of steps: each step weighs more than all steps of its sub-derivations.
+-- A measure of walks of steps: each step weighs more than all steps of its sub-derivations.
 use Rattle.std.proofs.Common.{◌≡◌, ℕ, zero, suc, ◌+◌, ◌<◌, ◌≤◌, List, [], ◌∷◌, map, length, get_or, ap, arith}
 use Rattle.bitvector_rules.specs.declared.step.Step.{Step, Step-F, out-Step, fold-Step, fold_out-Step}
 
@@ -29,3 +29,8 @@ pub weight_at : (steps : List Step) (i : ℕ) (s : Step) → i < length steps �
 weight_at [] i s h e = absurd (omega arith)
 weight_at (x ∷ xs) zero s h e = omega (arith, ap weight e)
 weight_at (x ∷ xs) (suc i) s h e = omega (arith, weight_at xs i s (omega arith) e)
+
+pub weights_at : (subs : List (List Step)) (i : ℕ) (steps : List Step) → i < length subs → steps ≡ get_or subs i steps → weights steps + 3 ≤ weights_of subs
+weights_at [] i s h e = absurd (omega arith)
+weights_at (x ∷ xs) zero s h e = omega (arith, ap weights e)
+weights_at (x ∷ xs) (suc i) s h e = omega (arith, weights_at xs i s (omega arith) e)
