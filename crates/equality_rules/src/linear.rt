@@ -14,7 +14,7 @@ use term_logic::{IdFormula, Linear, TermId, TermTable, Way};
 use wasm_values::OutOfMemory;
 
 /// The form of what the second term is more than the first.
-#[tactic(auto, using(term_logic::proofs::LinearForms::linear_forms))]
+#[tactic(auto, using(term_trees::proofs::LinearForms::linear_forms))]
 fn difference(
     alloc: Global,
     table: &TermTable,
@@ -35,7 +35,7 @@ fn difference(
 }
 
 /// The same, less 1.
-#[tactic(auto, using(term_logic::proofs::LinearForms::linear_forms))]
+#[tactic(auto, using(term_trees::proofs::LinearForms::linear_forms))]
 fn strict_difference(
     alloc: Global,
     table: &TermTable,
@@ -77,7 +77,7 @@ fn claimed_form(
 }
 
 /// The same of a conclusion, where `false` says so of -1.
-#[tactic(auto, using(term_logic::proofs::LinearForms::linear_forms))]
+#[tactic(auto, using(term_trees::proofs::LinearForms::linear_forms))]
 fn concluded_form(
     alloc: Global,
     table: &TermTable,
