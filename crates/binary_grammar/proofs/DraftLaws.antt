@@ -22,37 +22,37 @@ use Rattle.binary_grammar.proofs.Drafts.{InOrder, Counts, MayStand, with_section
 
 -- ---- what a draft has of each kind of section
 
-abbrev types : Draft → List FuncType × List ℕ
+abbrev pub types : Draft → List FuncType × List ℕ
 types d = (d.module.types, d.marks.types)
 
-abbrev imports : Draft → List Import × List ℕ
+abbrev pub imports : Draft → List Import × List ℕ
 imports d = (d.module.imports, d.marks.imports)
 
-abbrev declared : Draft → List ℕ × List ℕ
+abbrev pub declared : Draft → List ℕ × List ℕ
 declared d = (d.declared, d.marks.funcs)
 
-abbrev tables : Draft → List Limits × List ℕ
+abbrev pub tables : Draft → List Limits × List ℕ
 tables d = (d.module.tables, d.marks.tables)
 
-abbrev memories : Draft → List Limits × List ℕ
+abbrev pub memories : Draft → List Limits × List ℕ
 memories d = (d.module.memories, d.marks.memories)
 
-abbrev globals : Draft → List Global × List ℕ
+abbrev pub globals : Draft → List Global × List ℕ
 globals d = (d.module.globals, d.marks.globals)
 
-abbrev exports : Draft → List Export × List ℕ
+abbrev pub exports : Draft → List Export × List ℕ
 exports d = (d.module.exports, d.marks.exports)
 
-abbrev start : Draft → Option ℕ × ℕ
+abbrev pub start : Draft → Option ℕ × ℕ
 start d = (d.module.start, d.marks.start)
 
-abbrev elems : Draft → List Elem × List ℕ
+abbrev pub elems : Draft → List Elem × List ℕ
 elems d = (d.module.elems, d.marks.elems)
 
-abbrev bodies : Draft → List Body
+abbrev pub bodies : Draft → List Body
 bodies d = d.bodies
 
-abbrev segments : Draft → List Segment × List ℕ
+abbrev pub segments : Draft → List Segment × List ℕ
 segments d = (d.module.segments, d.marks.segments)
 
 -- a kind is that of one id alone
@@ -170,7 +170,7 @@ stands_rise d (section.Bodies bs) ss (inr l) h = inr (l, h)
 stands_rise d (section.Segments es ps) ss (inl e) h = absurd (omega (arith, e))
 stands_rise d (section.Segments es ps) ss (inr l) h = inr (l, h)
 
-stand_rising : (d : Draft) (ss : List Section) → MayStand d ss → Rising d.last ss
+pub stand_rising : (d : Draft) (ss : List Section) → MayStand d ss → Rising d.last ss
 stand_rising d [] h = tt
 stand_rising d (s ∷ ss) h = stands_rise d s ss h.0 (stand_rising (with_section d s) ss h.2)
 
@@ -268,7 +268,7 @@ are_funcs [] (b ∷ bs) e = absurd (omega (arith, e))
 are_funcs (t ∷ ts) [] e = absurd (omega (arith, e))
 are_funcs (t ∷ ts) (b ∷ bs) e = (refl, are_funcs ts bs (omega (arith, e)))
 
-funcs_count : (ts : List ℕ) (bs : List Body) (fs : List Func) → AreFuncs ts bs fs → length bs ≡ length ts
+pub funcs_count : (ts : List ℕ) (bs : List Body) (fs : List Func) → AreFuncs ts bs fs → length bs ≡ length ts
 funcs_count [] [] [] h = refl
 funcs_count [] [] (f ∷ fs) h = absurd h
 funcs_count [] (b ∷ bs) fs h = absurd h
@@ -288,21 +288,21 @@ funcs_are (t ∷ ts) (b ∷ bs) (f ∷ fs) h =
 -- ---- the whole module
 
 -- what a draft behind sections from nothing has
-record Gives (ss : List Section) (d : Draft) : Type 0 where
-  types : types d ≡ given type_section ([], []) ss
-  imports : imports d ≡ given import_section ([], []) ss
-  declared : declared d ≡ given function_section ([], []) ss
-  tables : tables d ≡ given table_section ([], []) ss
-  memories : memories d ≡ given memory_section ([], []) ss
-  globals : globals d ≡ given global_section ([], []) ss
-  exports : exports d ≡ given export_section ([], []) ss
-  start : start d ≡ given start_section (None, 0) ss
-  elems : elems d ≡ given element_section ([], []) ss
-  bodies : bodies d ≡ given code_section [] ss
-  segments : segments d ≡ given data_section ([], []) ss
-  customs : d.module.customs ≡ customs_of 0 ss
+pub record Gives (ss : List Section) (d : Draft) : Type 0 where
+  pub types : types d ≡ given type_section ([], []) ss
+  pub imports : imports d ≡ given import_section ([], []) ss
+  pub declared : declared d ≡ given function_section ([], []) ss
+  pub tables : tables d ≡ given table_section ([], []) ss
+  pub memories : memories d ≡ given memory_section ([], []) ss
+  pub globals : globals d ≡ given global_section ([], []) ss
+  pub exports : exports d ≡ given export_section ([], []) ss
+  pub start : start d ≡ given start_section (None, 0) ss
+  pub elems : elems d ≡ given element_section ([], []) ss
+  pub bodies : bodies d ≡ given code_section [] ss
+  pub segments : segments d ≡ given data_section ([], []) ss
+  pub customs : d.module.customs ≡ customs_of 0 ss
 
-gives : (ss : List Section) → Rising 0 ss → Gives ss (with_sections no_sections ss)
+pub gives : (ss : List Section) → Rising 0 ss → Gives ss (with_sections no_sections ss)
 gives ss h = record {
   types = all_given type_section 1 types (λ s. (owns s).types) (λ d s. (takes d s).types) (omega arith) no_sections ss h;
   imports = all_given import_section 2 imports (λ s. (owns s).imports) (λ d s. (takes d s).imports) (omega arith) no_sections ss h;
@@ -318,7 +318,7 @@ gives ss h = record {
   customs = all_named no_sections ss;
 }
 
-parts_of : (ss : List Section) (len : ℕ) (d : Draft) → Gives ss d → length d.bodies ≡ length d.declared → AreParts ss (whole_module len d).«module» (whole_module len d).marks
+pub parts_of : (ss : List Section) (len : ℕ) (d : Draft) → Gives ss d → length d.bodies ≡ length d.declared → AreParts ss (whole_module len d).«module» (whole_module len d).marks
 parts_of ss len d g e = record {
   types = g.types;
   imports = g.imports;
@@ -383,7 +383,7 @@ firsts {A} {B} x y e = ap (λ (z : A × B). z.0) e
 seconds : {A B : Type 0} (x y : A × B) → x ≡ y → x.1 ≡ y.1
 seconds {A} {B} x y e = ap (λ (z : A × B). z.1) e
 
-abbrev decoded : Module → Marks → Decoded
+abbrev pub decoded : Module → Marks → Decoded
 decoded m k = record { «module» = m; marks = k }
 
 funcs_same : (ss : List Section) (d : Draft) (fs : List Func) → Gives ss d → AreFuncs (given function_section ([], []) ss).0 (given code_section [] ss) fs → funcs_of d.declared d.bodies ≡ fs
@@ -391,7 +391,7 @@ funcs_same ss d fs g h =
     ap (λ (x : List ℕ × List ℕ). funcs_of x.0 d.bodies) g.declared ∙ ap (funcs_of (given function_section ([], []) ss).0) g.bodies ∙
     funcs_are (given function_section ([], []) ss).0 (given code_section [] ss) fs h
 
-module_same : (ss : List Section) (len : ℕ) (d : Draft) (m : Module) (k : Marks) → Gives ss d → AreParts ss m k → (whole_module len d).«module» ≡ m
+pub module_same : (ss : List Section) (len : ℕ) (d : Draft) (m : Module) (k : Marks) → Gives ss d → AreParts ss m k → (whole_module len d).«module» ≡ m
 module_same ss len d m k g h =
     same_module (whole_module len d).«module» m
     (firsts (types d) (m.types, k.types) (g.types ∙ sym h.types))
@@ -406,7 +406,7 @@ module_same ss len d m k g h =
     (firsts (segments d) (m.segments, k.segments) (g.segments ∙ sym h.segments))
     (g.customs ∙ sym h.customs)
 
-marks_same : (ss : List Section) (len : ℕ) (d : Draft) (m : Module) (k : Marks) → Gives ss d → AreParts ss m k → k.len ≡ len → (whole_module len d).marks ≡ k
+pub marks_same : (ss : List Section) (len : ℕ) (d : Draft) (m : Module) (k : Marks) → Gives ss d → AreParts ss m k → k.len ≡ len → (whole_module len d).marks ≡ k
 marks_same ss len d m k g h e =
     same_marks (whole_module len d).marks k
     (sym e)

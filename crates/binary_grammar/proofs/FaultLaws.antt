@@ -19,7 +19,7 @@ use Rattle.binary_grammar.specs.CodeReading.{word32_at, word64_at}
 use Rattle.binary_grammar.specs.SectionReading.{id_at, header, magic_at, header_at, module_at}
 use Rattle.binary_grammar.specs.Readings.{Wanted, Header, Next, FileEnd, Size, RegionEnd, Number, Few, Count, RunCount, Word32, Word64, Utf8, Bytes, Rest, ValueType, BlockType, Tag, Flag, KindByte, Op, Here, Left, local, few_at, count_at, run_count_at, kind_byte_of, opening, turning, opcode_of, kind_accepted, next_of, accept}
 use Rattle.binary_grammar.specs.Plans.{ReadsModule, Fault}
-use Rattle.binary_grammar.proofs.PlanModule.{reads_module, stops_module}
+use Rattle.binary_grammar.proofs.PlanWhole.{reads_module, stops_module}
 
 -- a value, or a fault that bytes have
 abbrev OfBytes : {A : Type 0} → Result A DecodeFault → Type 0

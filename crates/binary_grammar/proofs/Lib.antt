@@ -13,4 +13,5 @@ pub mod UniqueLaws
 pub mod ReadingLaws
 pub mod PlanLaws
 pub mod PlanModule
+pub mod PlanWhole
 pub mod FaultLaws

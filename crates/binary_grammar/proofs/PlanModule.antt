@@ -1,5 +1,5 @@
--- The plan of a module gives what the bytes are read as.
-use Rattle.std.proofs.Common.{◌≡◌, ℕ, zero, suc, ◌+◌, ◌<◌, ◌≤◌, Bool, true, false, cond, ltb, eqb, List, [], ◌∷◌, ◌++◌, length, Option, Some, None, Result, Ok, Err, inl, inr, refl, sym, ap, ◌∙◌, arith}
+-- The plan of a section's contents gives what the bytes are read as.
+use Rattle.std.proofs.Common.{◌≡◌, ℕ, zero, suc, ◌+◌, ◌<◌, ◌≤◌, Bool, true, false, cond, ltb, eqb, List, [], ◌∷◌, ◌++◌, length, Result, Ok, Err, inl, inr, refl, sym, ap, ◌∙◌, arith}
 use Rattle.std.proofs.lemmas.Bool.{ltb-true, ltb-false, ne_eqb}
 use Rattle.std.proofs.lemmas.List.{length-append}
 use Rattle.wasm_values.specs.declared.number.ValType.{ValType}
@@ -9,28 +9,21 @@ use Rattle.binary_grammar.specs.declared.fault.DecodeFault.{DecodeFault}
 use Rattle.binary_grammar.specs.declared.fault.DecodeFault.TheVariants.{Malformed, Limit}
 use Rattle.binary_grammar.specs.declared.fault.DecodeWord.TheVariants as word
 use Rattle.wasm_values.specs.declared.limit.LimitWord.TheVariants as limit
-use Rattle.binary_grammar.specs.declared.section.Section.{Section}
 use Rattle.binary_grammar.specs.declared.section.Section.TheVariants as section
-use Rattle.binary_grammar.specs.declared.section.Draft.{Draft}
-use Rattle.binary_grammar.specs.declared.section.Decoded.{Decoded}
 use Rattle.binary_grammar.specs.Bounds.{Bounds, copies}
 use Rattle.binary_grammar.specs.Reading.{◌>>=◌, Reader, place, then_at, done_at, of_byte, tagged_at, number_at, byte_at, entries_at, name_at, region_at, ended, sized_at}
 use Rattle.binary_grammar.specs.TypeReading.{value_type_at, import_kind_of, import_kind_at, import_at, export_kind_of, export_kind_at, export_at}
 use Rattle.binary_grammar.specs.CodeReading.{run_of_locals_at, runs_at, locals_at, body_contents_at, body_at}
-use Rattle.binary_grammar.specs.SectionReading.{global_at, elem_at, segment_at, custom_at, bodies_at, types_at, imports_at, funcs_at, tables_at, memories_at, globals_at, exports_at, start_at, elems_at, segments_at, contents_at, id_at, section_at, with_section, no_sections, sections_at, whole_module, finished_at, header, header_at, module_at}
-use Rattle.binary_grammar.specs.Readings.{FileEnd, RegionEnd, Number, Count, RunCount, Rest, KindByte, Here, Left, local, count_at, run_count_at, rest_of_region, left_by, accept, Plan, Complete, Want, andThen}
-use Rattle.binary_grammar.specs.Plans.{one, entries_plan, name_plan, sized_plan, imported_plan, import_plan, exported_plan, export_plan, runs_plan, locals_plan, body_plan, global_plan, elem_plan, segment_plan, contents_plan, sections_plan, module_plan, whole_file}
+use Rattle.binary_grammar.specs.SectionReading.{global_at, elem_at, segment_at, custom_at, bodies_at, types_at, imports_at, funcs_at, tables_at, memories_at, globals_at, exports_at, start_at, elems_at, segments_at, contents_at}
+use Rattle.binary_grammar.specs.Readings.{RegionEnd, Number, Count, RunCount, Rest, KindByte, Here, Left, local, count_at, run_count_at, rest_of_region, left_by, accept, Plan, Complete, Want, andThen}
+use Rattle.binary_grammar.specs.Plans.{one, entries_plan, name_plan, sized_plan, imported_plan, import_plan, exported_plan, export_plan, runs_plan, locals_plan, body_plan, global_plan, elem_plan, segment_plan, contents_plan}
 use Rattle.binary_grammar.proofs.ReadingLaws.{run}
 use Rattle.binary_grammar.proofs.NumberLaws.{chosen}
 use Rattle.binary_grammar.proofs.Exact.{ok, ok_is, bind_ok, exact_number}
 use Rattle.binary_grammar.proofs.TypeLaws.{exact_value_type, exact_name, exact_func_type, exact_limits, exact_table_type, exact_global_type, exact_import_kind, exact_import, exact_export_kind, exact_export}
 use Rattle.binary_grammar.proofs.CodeLaws.{exact_instrs}
-use Rattle.binary_grammar.specs.Plans.{ReadsModule, Fault}
-use Rattle.binary_grammar.proofs.ModuleLaws.{header_takes}
-use Rattle.std.specs.Prelude.{◌↔◌}
-use Rattle.binary_grammar.proofs.ReadingLaws.{run_reads, reads_run, run_stops, stops_run}
 use Rattle.binary_grammar.proofs.BodyLaws.{exact_locals, exact_body, region_takes}
-use Rattle.binary_grammar.proofs.SectionLaws.{exact_id, exact_global, exact_elem, exact_segment, exact_section, some_section}
+use Rattle.binary_grammar.proofs.SectionLaws.{exact_global, exact_elem, exact_segment}
 use Rattle.binary_grammar.proofs.PlanLaws.{run_then, Agrees, now, leave, Shrinks, agrees_next, agrees_then, agrees_done, whole_pair, agrees_number, agrees_value_type, agrees_name, agrees_bytes, agrees_entries, agrees_vector, agrees_list, agrees_same, shrinks_guarded, agrees_limited, agrees_func_type, agrees_limits, agrees_table_type, agrees_global_type, agrees_map, agrees_either, agrees_expression, agrees_instrs}
 
 -- ---- imports and exports
@@ -163,7 +156,7 @@ region_left left inside inner after = record { end = inner; bytes = inside; oute
 abbrev closes : Left → Result Left DecodeFault → Result (Unit {0} × Left) DecodeFault
 closes l v = v >>= λ w. Ok (tt {0}, left_by l l.outer)
 
-abbrev with_value : {A : Type 0} → A → Result (Unit {0} × Left) DecodeFault → Result (A × Left) DecodeFault
+abbrev pub with_value : {A : Type 0} → A → Result (Unit {0} × Left) DecodeFault → Result (A × Left) DecodeFault
 with_value x v = v >>= λ y. Ok (x, y.1)
 
 abbrev opens : Left → Result (List ℕ × ℕ × List ℕ) DecodeFault → Result (Unit {0} × Left) DecodeFault
@@ -199,7 +192,7 @@ sized_step len r p left ar le few (Ok region) e =
     ap (λ v. v >>= λ x. run (Want RegionEnd (λ e. Complete x.0)) x.1) (ar.agree l (omega (arith, n, t.ends)) (omega (arith, n))) ∙
     region_rest r left region.0 region.2 region.1 (r region.1 region.0)
 
-agrees_sized : {A : Type 0} {len : ℕ} {r : Reader A} {p : Plan A} → Agrees len r p → Agrees len (sized_at r) (sized_plan p)
+pub agrees_sized : {A : Type 0} {len : ℕ} {r : Reader A} {p : Plan A} → Agrees len r p → Agrees len (sized_at r) (sized_plan p)
 unfolding sized_at sized_plan accept
 agrees_sized {A} {len} {r} {p} ar = record { agree = λ left le few. sized_step len r p left ar le few (region_at left.end left.bytes) refl }
 
@@ -281,7 +274,7 @@ agrees_bodies {len} most declared =
     (λ end bytes. count_first (number_at end bytes) (λ n. eqb n declared) (Malformed (place end bytes) word.Count) (λ n. entries_at (body_at most.locals most.nesting) n.0 end n.1 >>= λ x. Ok (section.Bodies x.0.0, x.1)))
     (agrees_next (shrinks_count declared) (agrees_count declared) (λ n. agrees_map (λ x. section.Bodies x.0) (agrees_entries (exact_body most.locals most.nesting) (agrees_body most.locals most.nesting) n)))
 
-agrees_contents : {len : ℕ} (most : Bounds) (declared id : ℕ) → Agrees len (contents_at most declared id) (contents_plan len most declared id)
+pub agrees_contents : {len : ℕ} (most : Bounds) (declared id : ℕ) → Agrees len (contents_at most declared id) (contents_plan len most declared id)
 unfolding contents_at contents_plan types_at imports_at funcs_at tables_at memories_at globals_at exports_at elems_at segments_at
 agrees_contents most declared id =
     agrees_either (eqb id 0) agrees_custom
@@ -296,149 +289,3 @@ agrees_contents most declared id =
     (agrees_either (eqb id 9) (agrees_map (λ x. section.Elems x.0 x.1) (agrees_vector (exact_elem most.nesting) (agrees_elem most.nesting)))
     (agrees_either (eqb id 10) (agrees_bodies most declared)
     (agrees_map (λ x. section.Segments x.0 x.1) (agrees_vector (exact_segment most.nesting) (agrees_segment most.nesting)))))))))))))
-
--- ---- sections
-
-abbrev drafted : Left → Result Draft DecodeFault → Result (Draft × Left) DecodeFault
-drafted left v = v >>= λ d. Ok (d, now left [])
-
-abbrev found_next : Result (ℕ × List ℕ) DecodeFault → Result (Option ℕ × List ℕ) DecodeFault
-found_next v = v >>= λ x. Ok (Some x.0, x.1)
-
--- a section shorter than what was left
-section_shrinks : (most : Bounds) (last declared end : ℕ) (bytes rest : List ℕ) (s : Section) → length bytes ≤ end → section_at most last declared end bytes ≡ Ok (s, rest) → length rest < length bytes
-section_shrinks most last declared end bytes rest s le e =
-    let t = (exact_section most last declared).takes end bytes rest s le e in
-    omega (arith, some_section (place end bytes) t.text s t.spells, ap length t.parts, length-append t.text rest)
-
--- what comes behind a section that was read
-abbrev Behind : ℕ → Bounds → ℕ → Draft → Left → Type 0
-Behind len most n d left = (s : Section) (rest : List ℕ) → section_at most d.last (length d.declared) left.end left.bytes ≡ Ok (s, rest) →
-    run (sections_plan len most n (with_section d s)) (now left rest) ≡ drafted left (sections_at most n (with_section d s) left.end rest)
-
-behind_region : (len : ℕ) (most : Bounds) (n : ℕ) (d : Draft) (left : Left) (v : Result (Section × List ℕ) DecodeFault) →
-    ((s : Section) (rest : List ℕ) → v ≡ Ok (s, rest) → run (sections_plan len most n (with_section d s)) (now left rest) ≡ drafted left (sections_at most n (with_section d s) left.end rest)) →
-    (leave left v >>= λ x. run (sections_plan len most n (with_section d x.0)) x.1) ≡ drafted left (v >>= λ s. sections_at most n (with_section d s.0) left.end s.1)
-behind_region len most n d left (Ok s) go = go s.0 s.1 refl
-behind_region len most n d left (Err f) go = refl
-
-id_shrinks : (last end : ℕ) (bytes : List ℕ) (x : ℕ × List ℕ) → length bytes ≤ end → id_at last end bytes ≡ Ok x → length x.1 ≤ length bytes
-id_shrinks last end bytes x le e =
-    let t = (exact_id last).takes end bytes x.1 x.0 le e in omega (arith, ap length t.parts, length-append t.text x.1)
-
-behind_id : (len : ℕ) (most : Bounds) (n : ℕ) (d : Draft) (left : Left) → length left.bytes ≤ left.end → length left.bytes ≤ len →
-    (v : Result (ℕ × List ℕ) DecodeFault) → id_at d.last left.end left.bytes ≡ v → Behind len most n d left →
-    (leave left (found_next v) >>= λ x. run (elim x.0 as (λ o. Plan Draft) [
-      | None ↦ Complete d
-      | Some id ↦ andThen (sized_plan (contents_plan len most (length d.declared) id)) (λ s. sections_plan len most n (with_section d s))
-    ]) x.1) ≡
-    drafted left ((v >>= λ id. sized_at (contents_at most (length d.declared) id.0) left.end id.1) >>= λ s. sections_at most n (with_section d s.0) left.end s.1)
-unfolding section_at then_at
-behind_id len most n d left le few (Err f) e go = refl
-behind_id len most n d left le few (Ok id) e go =
-    let short : length id.1 ≤ length left.bytes = id_shrinks d.last left.end left.bytes id le e in
-    let a : Agrees len (sized_at (contents_at most (length d.declared) id.0)) (sized_plan (contents_plan len most (length d.declared) id.0)) = agrees_sized (agrees_contents most (length d.declared) id.0) in
-    run_then (sized_plan (contents_plan len most (length d.declared) id.0)) (λ s. sections_plan len most n (with_section d s)) (now left id.1) ∙
-    ap (λ v. v >>= λ x. run (sections_plan len most n (with_section d x.0)) x.1) (a.agree (now left id.1) (omega (arith, short)) (omega (arith, short))) ∙
-    behind_region len most n d left (sized_at (contents_at most (length d.declared) id.0) left.end id.1) (λ s rest q.
-    go s rest (ap (λ v. v >>= λ z. sized_at (contents_at most (length d.declared) z.0) left.end z.1) e ∙ q))
-
-sections_bytes : (len : ℕ) (most : Bounds) (n : ℕ) (d : Draft) (left : Left) (bytes : List ℕ) → length bytes ≤ left.end → length bytes ≤ len → length bytes ≤ n →
-    run (sections_plan len most n d) (now left bytes) ≡ drafted left (sections_at most n d left.end bytes)
-unfolding sections_plan sections_at accept section_at then_at
-sections_bytes len most zero d left [] le few fit = refl
-sections_bytes len most zero d left (b ∷ bs) le few fit = absurd (omega arith)
-sections_bytes len most (suc n) d left [] le few fit = refl
-sections_bytes len most (suc n) d left (b ∷ bs) le few fit =
-    behind_id len most n d (now left (b ∷ bs)) le few (id_at d.last left.end (b ∷ bs)) refl (λ s rest e.
-    let k = section_shrinks most d.last (length d.declared) left.end (b ∷ bs) rest s le e in
-    sections_bytes len most n (with_section d s) left rest (omega (arith, k)) (omega (arith, k)) (omega (arith, k)))
-
--- ---- modules
-
-abbrev value_of : {A : Type 0} → Result (A × Left) DecodeFault → Result A DecodeFault
-value_of v = v >>= λ x. Ok x.0
-
-abbrev behind_header : Left → Result (List ℕ) DecodeFault → Result (Unit {0} × Left) DecodeFault
-behind_header left v = v >>= λ rest. Ok (tt {0}, now left rest)
-
-abbrev at_end : ℕ → Draft → Plan Decoded
-at_end len d = Want (FileEnd (length d.declared) (length d.bodies)) (λ e. Complete (whole_module len d))
-
-abbrev file_left : ℕ → List ℕ → Left
-file_left len bytes = record { end = len; bytes = bytes; outer = [] }
-
-file_ends : (len : ℕ) (d : Draft) → value_of (run (at_end len d) (file_left len [])) ≡ finished_at len d
-unfolding accept finished_at
-file_ends len d = go (eqb (length d.bodies) (length d.declared))
-  where
-    go : (b : Bool) → value_of (with_value (whole_module len d) (cond b (Ok (tt {0}, file_left len [])) (Err (Malformed len word.Count)))) ≡ cond b (Ok (whole_module len d)) (Err (Malformed len word.Count))
-    go true = refl
-    go false = refl
-
-sections_end : (len : ℕ) (bytes : List ℕ) (v : Result Draft DecodeFault) →
-    value_of (drafted (file_left len bytes) v >>= λ x. run (at_end len x.0) x.1) ≡ (v >>= λ d. finished_at len d)
-sections_end len bytes (Ok d) = file_ends len d
-sections_end len bytes (Err f) = refl
-
-same_next : {A B : Type 0} (v : Result A DecodeFault) (f g : A → Result B DecodeFault) → ((x : A) → v ≡ Ok x → f x ≡ g x) → (v >>= f) ≡ (v >>= g)
-same_next (Ok x) f g h = h x refl
-same_next (Err d) f g h = refl
-
-abbrev failed : {A : Type 0} → DecodeFault → Result A DecodeFault
-failed d = Err d
-
--- more room changes nothing
-sections_same : (most : Bounds) (n k : ℕ) (d : Draft) (end : ℕ) (bytes : List ℕ) → length bytes ≤ end → length bytes ≤ n → length bytes ≤ k → sections_at most n d end bytes ≡ sections_at most k d end bytes
-unfolding sections_at
-sections_same most zero zero d end bytes le a b = refl
-sections_same most zero (suc k) d end [] le a b = refl
-sections_same most zero (suc k) d end (c ∷ bs) le a b = absurd (omega arith)
-sections_same most (suc n) zero d end [] le a b = refl
-sections_same most (suc n) zero d end (c ∷ bs) le a b = absurd (omega arith)
-sections_same most (suc n) (suc k) d end [] le a b = refl
-sections_same most (suc n) (suc k) d end (c ∷ bs) le a b =
-    same_next (section_at most d.last (length d.declared) end (c ∷ bs)) (λ s. sections_at most n (with_section d s.0) end s.1) (λ s. sections_at most k (with_section d s.0) end s.1) (λ s e.
-    let q = section_shrinks most d.last (length d.declared) end (c ∷ bs) s.1 s.0 le e in
-    sections_same most n k (with_section d s.0) end s.1 (omega (arith, q)) (omega (arith, q)) (omega (arith, q)))
-
-header_ends : (len : ℕ) (most : Bounds) (bytes : List ℕ) (v : Result (List ℕ) DecodeFault) → header_at len bytes ≡ v → len ≡ length bytes →
-    value_of (behind_header (file_left len bytes) v >>= λ x. run (andThen (sections_plan len most len no_sections) (at_end len)) x.1) ≡
-    (v >>= λ rest. sections_at most (length rest) no_sections len rest >>= λ d. finished_at len d)
-header_ends len most bytes (Err f) e q = refl
-header_ends len most bytes (Ok rest) e q =
-    let parts = header_takes len bytes rest e in
-    let le : length rest ≤ len = omega (arith, ap length parts, length-append header rest) in
-    ap value_of (run_then (sections_plan len most len no_sections) (at_end len) (file_left len rest)) ∙
-    ap (λ v. value_of (v >>= λ x. run (at_end len x.0) x.1)) (sections_bytes len most len no_sections (file_left len rest) rest le le le) ∙
-    sections_end len rest (sections_at most len no_sections len rest) ∙
-    ap (λ v. v >>= λ d. finished_at len d) (sections_same most len (length rest) no_sections len rest le le (omega arith))
-
--- the plan of the file gives what the bytes are read as
-module_agrees : (most : Bounds) (bytes : List ℕ) → value_of (run (module_plan most (length bytes)) (whole_file bytes)) ≡ module_at most bytes
-unfolding module_plan module_at accept
-module_agrees most bytes = header_ends (length bytes) most bytes (header_at (length bytes) bytes) refl refl
-
-run_value : {A : Type 0} (v : Result (A × Left) DecodeFault) (x : A) → value_of v ≡ Ok x → (after : Left) × (v ≡ Ok (x, after))
-run_value {A} (Ok y) x e = (y.1, ap (λ (z : A). ok (z, y.1)) (ok_is y.0 x e))
-run_value (Err f) x e = absurd cc
-
-run_fault : {A : Type 0} (v : Result (A × Left) DecodeFault) (f : DecodeFault) → value_of v ≡ Err f → v ≡ Err f
-run_fault (Ok y) f e = absurd cc
-run_fault {A} (Err g) f e = let q : g ≡ f = cc in ap (λ h. failed {A = A × Left} h) q
-
-pub reads_module : (most : Bounds) (bytes : List ℕ) (r : Decoded) → (module_at most bytes ≡ Ok r) ↔ ReadsModule most bytes r
-reads_module most bytes r =
-    let p = module_plan most (length bytes) in
-    let l = whole_file bytes in (
-      λ e. let v = run_value (run p l) r (module_agrees most bytes ∙ e) in let s = run_reads p l r v.0 v.1 in (s.0, v.0, s.1),
-      λ h. sym (module_agrees most bytes) ∙ ap value_of (reads_run p l h.0 r h.1 h.2),
-    )
-
-pub stops_module : (most : Bounds) (bytes : List ℕ) (f : DecodeFault) → (module_at most bytes ≡ Err f) ↔ Fault most bytes f
-stops_module most bytes f =
-    let p = module_plan most (length bytes) in
-    let l = whole_file bytes in (
-      λ e. run_stops p l f (run_fault (run p l) f (module_agrees most bytes ∙ e)),
-      λ h. sym (module_agrees most bytes) ∙ ap value_of (stops_run p l f h),
-    )

@@ -1,5 +1,5 @@
 -- Which items a module's bytes have, in the order of the file.
-use Rattle.std.specs.Prelude.{ℕ, zero, suc, ◌+◌, nat_lt, ◌==◌, if◌then◌else◌, Bool, true, false, List, [], ◌∷◌, ◌++◌, length, Option, Some, None}
+use Rattle.std.specs.Prelude.{◌≡◌, ℕ, zero, suc, ◌+◌, nat_lt, ◌==◌, if◌then◌else◌, Bool, true, false, List, [], ◌∷◌, ◌++◌, length, Option, Some, None}
 use Rattle.wasm_values.specs.declared.number.ValType.{ValType}
 use Rattle.wasm_values.specs.declared.number.Val.TheVariants as val
 use Rattle.wasm_syntax.specs.declared.instr.Instr.{Instr}
@@ -23,7 +23,6 @@ use Rattle.wasm_values.specs.declared.limit.LimitWord.TheVariants as limit
 use Rattle.binary_grammar.specs.declared.section.Body.{Body}
 use Rattle.binary_grammar.specs.declared.section.Section.{Section}
 use Rattle.binary_grammar.specs.declared.section.Section.TheVariants as section
-use Rattle.binary_grammar.specs.declared.section.Draft.{Draft}
 use Rattle.binary_grammar.specs.declared.section.Decoded.{Decoded}
 use Rattle.binary_grammar.specs.declared.fault.DecodeFault.{DecodeFault}
 use Rattle.binary_grammar.specs.declared.fault.DecodeFault.TheVariants.{Malformed, Limit, OutOfMemory}
@@ -33,7 +32,7 @@ use Rattle.wasm_syntax.specs.declared.module.ExportKind.{ExportKind}
 use Rattle.wasm_syntax.specs.declared.module.ExportKind.TheVariants as export
 use Rattle.binary_grammar.specs.Bounds.{Bounds, copies}
 use Rattle.binary_grammar.specs.CodeReading.{is_last, own_instrs}
-use Rattle.binary_grammar.specs.SectionReading.{with_section, no_sections, whole_module}
+use Rattle.binary_grammar.specs.ModuleGrammar.{id_of, given, function_section, code_section, AreParts}
 use Rattle.binary_grammar.specs.Readings.{Wanted, Header, Next, FileEnd, Size, RegionEnd, Number, Few, Count, RunCount, Word32, Word64, Utf8, Bytes, Rest, ValueType, BlockType, Tag, Flag, KindByte, Op, Here, Given, Left, Plan, Complete, Want, andThen, ReadsTo, StopsAt}
 
 -- One item, for what it gives.
@@ -229,35 +228,55 @@ contents_plan len most declared id =
     (if id == 10 then andThen (one (Count declared)) (λ n. andThen (entries_plan (body_plan len most.locals most.nesting) n) (λ x. Complete (section.Bodies x.0))) else
     andThen (vector_plan (segment_plan len most.nesting)) (λ x. Complete (section.Segments x.0 x.1))))))))))))
 
--- Sections up to the end of the file; at most so many, as many as the file has bytes. No reading of a file reaches the case
--- of `zero`, since each section has bytes. From the reading functions the plans take only how sections become a module
--- (`with_section`, `no_sections`, `whole_module`), and where an expression ends and what its instructions are (`is_last`,
--- `own_instrs`).
-unfoldable pub sections_plan : ℕ → Bounds → ℕ → Draft → Plan Draft
-sections_plan len most zero d = Want (Next d.last) (λ o. Complete d)
-sections_plan len most (suc n) d = Want (Next d.last) (λ o. elim o as (λ v. Plan Draft) [
-  | None ↦ Complete d
-  | Some id ↦ andThen (sized_plan (contents_plan len most (length d.declared) id)) (λ s. sections_plan len most n (with_section d s))
+-- The id of the last section that is not custom, behind one more section.
+abbrev pub last_behind : ℕ → Section → ℕ
+last_behind last s = if id_of s == 0 then last else id_of s
+
+-- How many functions are declared, behind one more section.
+abbrev pub declared_behind : ℕ → Section → ℕ
+declared_behind declared (section.Funcs es ps) = length es
+declared_behind declared _ = declared
+
+-- Sections up to the end of the file, behind sections of which the last that is not custom has this id and which declare so
+-- many functions; at most so many, as many as the file has bytes. No reading of a file reaches the case of `zero`, since each
+-- section has bytes.
+unfoldable pub sections_plan : ℕ → Bounds → ℕ → ℕ → ℕ → Plan (List Section)
+sections_plan len most zero last declared = Want (Next last) (λ o. Complete [])
+sections_plan len most (suc n) last declared = Want (Next last) (λ o. elim o as (λ v. Plan (List Section)) [
+  | None ↦ Complete []
+  | Some id ↦ andThen (sized_plan (contents_plan len most declared id)) (λ s.
+      andThen (sections_plan len most n (last_behind last s) (declared_behind declared s)) (λ ss. Complete (s ∷ ss)))
 ])
 
--- A module's bytes, of which there are so many.
-unfoldable pub module_plan : Bounds → ℕ → Plan Decoded
+-- How many functions are declared by sections, each of which has its body.
+abbrev pub functions_of : List Section → ℕ
+functions_of ss = length (given function_section ([], []) ss).0
+
+-- How many bodies sections have.
+abbrev pub bodies_of : List Section → ℕ
+bodies_of ss = length (given code_section [] ss)
+
+-- A module's bytes, of which there are so many: its sections.
+unfoldable pub module_plan : Bounds → ℕ → Plan (List Section)
 module_plan most len =
-    Want Header (λ h. andThen (sections_plan len most len no_sections) (λ d. Want (FileEnd (length d.declared) (length d.bodies)) (λ e. Complete (whole_module len d))))
+    Want Header (λ h. andThen (sections_plan len most len 0 0) (λ ss. Want (FileEnd (functions_of ss) (bodies_of ss)) (λ e. Complete ss)))
 
 -- All of the bytes of a file.
 abbrev pub whole_file : List ℕ → Left
 whole_file bytes = record { end = length bytes; bytes = bytes; outer = [] }
 
--- The bytes have a complete reading, which gives a module and its marks.
+-- The bytes have a complete reading, which gives sections, and these are the parts of a module and its marks.
 abbrev pub ReadsModule : Bounds → List ℕ → Decoded → Type 0
-ReadsModule most bytes r = ReadsTo (module_plan most (length bytes)) (whole_file bytes) r
+ReadsModule most bytes r =
+    (sections : List Section) × ReadsTo (module_plan most (length bytes)) (whole_file bytes) sections ×
+    AreParts sections r.module r.marks × (r.marks.len ≡ length bytes)
 
 -- The bytes' longest reading is not complete, and this is the place and the word that the item gives that is wanted next.
 -- Whether an item is accepted, what it gives and what its fault is, `accept` takes from the reading functions of single
 -- items: numbers, bytes, names, types, sizes and ends of regions, ids of sections, the header; opcodes and counts it judges
--- itself. `Spells` takes nothing from reading functions; that a reading is complete exactly where bytes spell a module
--- within the limits is a law.
+-- itself. The plans take from them where an expression ends and which instructions its items are (`is_last`, `own_instrs`).
+-- `Spells` takes nothing from reading functions; that a reading is complete exactly where bytes spell a module within the
+-- limits is a law.
 abbrev pub Fault : Bounds → List ℕ → DecodeFault → Type 0
 Fault most bytes f = StopsAt (module_plan most (length bytes)) (whole_file bytes) f
 

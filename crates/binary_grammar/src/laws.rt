@@ -4,6 +4,7 @@ ghost use Rattle.wasm_syntax.specs.declared.module.Marks.{Marks};
 ghost use Rattle.binary_grammar.specs.declared.fault.DecodeFault.{DecodeFault};
 ghost use Rattle.binary_grammar.specs.declared.fault.DecodeFault.TheVariants as DecodeFault;
 ghost use Rattle.binary_grammar.specs.declared.section.Decoded.{Decoded};
+ghost use Rattle.binary_grammar.specs.declared.section.Section.{Section};
 ghost use Rattle.binary_grammar.specs.Bounds.{the_bounds};
 ghost use Rattle.binary_grammar.specs.SectionReading.{module_at};
 ghost use Rattle.binary_grammar.specs.ModuleGrammar.{Spells, InLimits};
@@ -36,6 +37,6 @@ pub fn one_fault()
 
 /// No reading goes past an item that is not accepted.
 pub fn longest_reading()
-    ensures { (p q : Plan Decoded) (left after stop : Left) (items others : List Item) (k : Wanted) (more : (Given k → Plan Decoded)) (f : DecodeFault) →
+    ensures { (p q : Plan (List Section)) (left after stop : Left) (items others : List Item) (k : Wanted) (more : (Given k → Plan (List Section))) (f : DecodeFault) →
         Reads p left items q after → Reads p left others (Want k more) stop → accept k stop ≡ Err f → length items ≤ length others }
 {}

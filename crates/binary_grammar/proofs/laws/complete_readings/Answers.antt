@@ -1,6 +1,6 @@
 use Rattle.binary_grammar.specs.Bounds.{the_bounds}
 use Rattle.binary_grammar.proofs.ModuleLaws.{module_takes, module_again}
-use Rattle.binary_grammar.proofs.PlanModule.{reads_module}
+use Rattle.binary_grammar.proofs.PlanWhole.{reads_module}
 use Rattle.binary_grammar.proofs.laws.complete_readings.Goals as goal
 
 pub returns : goal.returns

@@ -1,5 +1,5 @@
 use Rattle.binary_grammar.specs.Bounds.{the_bounds}
-use Rattle.binary_grammar.proofs.PlanModule.{reads_module, stops_module}
+use Rattle.binary_grammar.proofs.PlanWhole.{reads_module, stops_module}
 use Rattle.binary_grammar.proofs.laws.readings.Goals as goal
 
 pub returns-clause-complete : goal.returns-clause-complete
