@@ -1,7 +1,8 @@
-use binary_grammar::{DecodeFault, DecodeWord, LebFault};
+use binary_grammar::{DecodeFault, DecodeWord, Decoded, LebFault};
 use std::alloc::Global;
 use std::test::Fail;
 use wasm_binary::{decode, read_s32, read_s64, read_u32};
+use wasm_syntax::Custom;
 
 type Fault = (usize, Option<DecodeWord>);
 
@@ -45,17 +46,20 @@ fn cut_files(rt: HostRuntime) {
     }
 }
 
+/// Whether it is what the sample spells.
+fn is_the_sample(found: &Decoded) -> bool {
+    let code = found.marks.code.as_slice();
+    found.module.funcs.len() == 1
+        && found.module.globals.len() == 1
+        && found.marks.exports.as_slice() == [29].as_slice()
+        && code.len() == 1
+        && code[0].as_slice() == [0x26, 0x28, 0x2a].as_slice()
+}
+
 #[test]
 fn a_module_with_its_marks(rt: HostRuntime) -> Result<(), Fail> {
-    let found = decode(rt.alloc(), &SAMPLE)
-        .ok()
-        .ok_or("the bytes are a module")?;
-    assert_eq!(rt; found.module.funcs.len(), 1);
-    assert_eq!(rt; found.module.globals.len(), 1);
-    assert_eq!(rt; found.marks.exports.as_slice(), [29].as_slice());
-    for places in found.marks.code.as_slice() {
-        assert_eq!(rt; places.as_slice(), [0x26, 0x28, 0x2a].as_slice());
-    }
+    let found = decode(rt.alloc(), &SAMPLE)?;
+    assert!(rt; is_the_sample(&found));
     Ok(())
 }
 
@@ -125,18 +129,17 @@ fn floats_and_false_counts(rt: HostRuntime) -> Result<(), Fail> {
     Ok(())
 }
 
+/// Whether these are two custom sections behind that of the types.
+fn are_behind_types(customs: &[Custom]) -> bool {
+    customs.len() == 2 && customs.iter().all(|custom| custom.after == 1)
+}
+
 #[test]
 fn custom_sections(rt: HostRuntime) -> Result<(), Fail> {
     // Behind the types stand a custom section, no functions, and another custom section.
     let all = with_type(rt.alloc(), &[0, 3, 1, 0x61, 7, 3, 1, 0, 0, 1, 0])?;
-    let found = decode(rt.alloc(), &all)
-        .ok()
-        .ok_or("the bytes are a module")?;
-    let customs = found.module.customs.as_slice();
-    assert_eq!(rt; customs.len(), 2);
-    for custom in customs {
-        assert_eq!(rt; custom.after, 1);
-    }
+    let found = decode(rt.alloc(), &all)?;
+    assert!(rt; are_behind_types(found.module.customs.as_slice()));
     Ok(())
 }
 

@@ -1,6 +1,7 @@
 use std::alloc::Global;
 use std::test::Fail;
 use wasm_binary::decode;
+use wasm_syntax::Module;
 use wasm_write::encode;
 
 const HEADER: [u8; 8] = [0, 0x61, 0x73, 0x6d, 1, 0, 0, 0];
@@ -13,7 +14,7 @@ fn with_header(alloc: Global, bytes: &[u8]) -> Result<Vec<u8>, Fail> {
 
 // The text of the module that the bytes decode to.
 fn written(alloc: Global, bytes: &[u8]) -> Result<Vec<u8>, Fail> {
-    let found = decode(alloc, bytes).ok().ok_or("the bytes are a module")?;
+    let found = decode(alloc, bytes)?;
     let text = encode(alloc, &found.module)?;
     Ok(text.into_vec())
 }
@@ -63,5 +64,20 @@ fn every_kind(rt: HostRuntime) -> Result<(), Fail> {
     let again = written(rt.alloc(), &text)?;
     assert_eq!(rt; text.as_slice(), again.as_slice());
     assert_eq!(rt; text.len(), 8 + SAMPLE.len() - 2, "two runs are one");
+    Ok(())
+}
+
+/// Whether a module's copy is written for readers as the module is.
+fn is_like_its_copy(alloc: Global, module: &Module) -> Result<bool, Fail> {
+    let copied = module.copy(alloc)?;
+    let text = format!(in alloc; "{module:?}")?;
+    Ok(text == format!(in alloc; "{copied:?}")?)
+}
+
+#[test]
+fn a_module_is_copied(rt: HostRuntime) -> Result<(), Fail> {
+    let bytes = with_header(rt.alloc(), &SAMPLE)?;
+    let found = decode(rt.alloc(), &bytes)?;
+    assert!(rt; is_like_its_copy(rt.alloc(), &found.module)?);
     Ok(())
 }

@@ -2,11 +2,9 @@
 #![tactic(auto)]
 
 #[cfg(test)]
-mod marking;
-#[cfg(test)]
 mod rows;
 #[cfg(test)]
-mod sample;
+mod running;
 #[cfg(test)]
 mod steps;
 #[cfg(test)]

@@ -1,26 +1,19 @@
 // Small bodies over the instructions, run to their end by steps.
 
-ghost use Rattle.std.specs.Prelude.{◌≡◌, length, IfOk, IfSome, IsTrue};
+ghost use Rattle.std.specs.Prelude.{◌≡◌, length, IfOk};
 ghost use Rattle.type_safety.specs.Typed.{Typed};
 ghost use Rattle.wasm_instantiate.specs.Instantiation.{IsAtRest};
 
-use crate::marking::marks_of;
 use crate::rows::{COMPARISONS, CONTROL, Ended, OPERATORS_32, OPERATORS_64, Row, STATE};
+use crate::running::{enter, load, run_alone, run_out};
 use std::alloc::Global;
 use std::test::Fail;
 use type_safety::the_first_is_typed;
-use wasm_binary::decode;
-use wasm_instantiate::{add_host, instantiate, invoke};
-use wasm_reduce::{Moved, Policy, step};
-use wasm_store::{Config, Extern, Outcome};
+use wasm_instantiate::add_host;
+use wasm_reduce::Moved;
+use wasm_store::{Config, Outcome};
 use wasm_syntax::FuncType;
-use wasm_validate::{ValidModule, validate};
 use wasm_values::{List, Val, ValType};
-
-const POLICY: Policy = Policy {
-    pages: 1_024,
-    frames: 10_000,
-};
 
 /// The module of such a function.
 fn module_of(alloc: Global, ty: u8, body: &[u8]) -> Result<Vec<u8>, Fail> {
@@ -43,16 +36,6 @@ fn module_of(alloc: Global, ty: u8, body: &[u8]) -> Result<Vec<u8>, Fail> {
     Ok(module)
 }
 
-fn is_at_rest(outcome: &Outcome) -> bool
-    ensures { IsTrue result → IsAtRest outcome.now }
-{
-    match outcome {
-        Outcome::Running => false,
-        Outcome::Done(_) => true,
-        Outcome::Trapped => true,
-    }
-}
-
 fn end_of_run(outcome: &Outcome) -> Ended {
     match outcome {
         Outcome::Running => Ended::Never,
@@ -65,67 +48,12 @@ fn end_of_run(outcome: &Outcome) -> Ended {
     }
 }
 
-/// The valid module that the bytes spell.
-fn made(alloc: Global, bytes: &[u8]) -> Result<ValidModule, Fail> {
-    let module = decode(alloc, bytes)?.module;
-    let marks = marks_of(alloc, &module)?;
-    Ok(validate(alloc, module, &marks)?)
-}
-
-/// A configuration in which the module that the bytes spell is instantiated alone.
-fn instantiated(alloc: Global, bytes: &[u8]) -> Result<Config, Fail>
-    ensures { IfOk result Typed }
-{
-    the_first_is_typed();
-    let valid = made(alloc, bytes)?;
-    let mut config = Config::new(alloc);
-    instantiate(alloc, &mut config, &valid, &Vec::new(alloc), &POLICY)?;
-    Ok(config)
-}
-
-/// Enters a function without parameters, where it is there and nothing runs.
-fn enter(alloc: Global, config: &mut Config, func: u32) -> Result<(), Fail>
-    requires { Typed config.old }
-    ensures { Typed config.new }
-{
-    if is_at_rest(config.outcome()) && config.store.funcs.len() > func as usize {
-        invoke(alloc, config, &Extern::Func(func), &Vec::new(alloc))?;
-    }
-    Ok(())
-}
-
-/// Takes a step where a module's function is on top.
-fn advance(alloc: Global, config: &mut Config) -> Result<Option<Moved>, Fail>
-    requires { Typed config.old }
-    ensures { Typed config.new }
-{
-    if config.top_instance().is_none() {
-        return Ok(None);
-    }
-    Ok(Some(step(alloc, config, &POLICY)?))
-}
-
-/// Takes steps until one doesn't go on, at most a hundred. It answers that step's number and what it came to: nothing where
-/// there is no step.
-fn run_out(alloc: Global, config: &mut Config) -> Result<(u32, Option<Moved>), Fail>
-    requires { Typed config.old }
-    ensures { Typed config.new }
-{
-    'steps: for steps in 0..100 {
-        let moved = advance(alloc, config)?;
-        if moved != Some(Moved::Went) {
-            return Ok((steps + 1, moved));
-        }
-    }
-    Ok((100, Some(Moved::Went)))
-}
-
 /// What the function comes to, and after how many steps.
 fn ran(alloc: Global, ty: u8, body: &[u8]) -> Result<(Ended, u32), Fail> {
+    the_first_is_typed();
     let module = module_of(alloc, ty, body)?;
-    let mut config = instantiated(alloc, module.as_slice())?;
-    enter(alloc, &mut config, 0)?;
-    let (steps, _) = run_out(alloc, &mut config)?;
+    let mut config = Config::new(alloc);
+    let (steps, _) = run_alone(alloc, &mut config, module.as_slice())?;
     Ok((end_of_run(config.outcome()), steps))
 }
 
@@ -185,9 +113,9 @@ const COUNTING: &[u8] = &[
 
 /// What the function comes to, after how many steps, and what the last step answers.
 fn counted(alloc: Global) -> Result<(Ended, u32, Option<Moved>), Fail> {
-    let mut config = instantiated(alloc, COUNTING)?;
-    enter(alloc, &mut config, 0)?;
-    let (steps, moved) = run_out(alloc, &mut config)?;
+    the_first_is_typed();
+    let mut config = Config::new(alloc);
+    let (steps, moved) = run_alone(alloc, &mut config, COUNTING)?;
     Ok((end_of_run(config.outcome()), steps, moved))
 }
 
@@ -219,17 +147,18 @@ fn takes_one(alloc: Global) -> Result<FuncType, Fail>
     })
 }
 
-/// A configuration with a host's function, in which the module that the bytes spell is instantiated with it.
-fn linked(alloc: Global, bytes: &[u8]) -> Result<Config, Fail>
-    ensures { IfOk result Typed }
+/// Adds a host's function, instantiates the module that the bytes spell with it, enters the module's function, and runs it. It
+/// answers the number of the last step.
+fn run_linked(alloc: Global, config: &mut Config, bytes: &[u8]) -> Result<u32, Fail>
+    requires typed { Typed config.old }
+    requires rests { IsAtRest config.old.outcome }
+    requires empty { length config.old.store.funcs ≡ 0 }
 {
-    the_first_is_typed();
-    let mut config = Config::new(alloc);
-    let host = add_host(alloc, &mut config, &takes_one(alloc)?)?;
-    let valid = made(alloc, bytes)?;
-    let externs = Vec::from_slice(alloc, &[host])?;
-    instantiate(alloc, &mut config, &valid, &externs, &POLICY)?;
-    Ok(config)
+    let host = add_host(alloc, config, &takes_one(alloc)?)?;
+    load(alloc, config, bytes, &Vec::from_slice(alloc, &[host])?)?;
+    enter(alloc, config, 1)?;
+    let (steps, _) = run_out(alloc, config)?;
+    Ok(steps)
 }
 
 /// The first argument of the host's function on top, or none where there is none.
@@ -242,9 +171,9 @@ fn first_argument(config: &Config) -> Option<Val> {
 
 /// At which step a host's function is found on top, which one, over how many frames in all, and with which argument.
 fn called(alloc: Global) -> Result<(u32, Option<u32>, usize, Option<Val>), Fail> {
-    let mut config = linked(alloc, CALLING)?;
-    enter(alloc, &mut config, 1)?;
-    let (steps, _) = run_out(alloc, &mut config)?;
+    the_first_is_typed();
+    let mut config = Config::new(alloc);
+    let steps = run_linked(alloc, &mut config, CALLING)?;
     Ok((
         steps,
         config.host_top(),

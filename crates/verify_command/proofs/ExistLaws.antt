@@ -13,7 +13,7 @@ use Rattle.binary_grammar.specs.ModuleGrammar.{Spells}
 use Rattle.binary_grammar.specs.Plans.{Fault}
 use Rattle.binary_grammar.proofs.FaultLaws.{some_answer, of_bytes}
 use Rattle.binary_grammar.proofs.ModuleLaws.{module_takes}
-use Rattle.binary_grammar.proofs.PlanModule.{reads_module}
+use Rattle.binary_grammar.proofs.PlanWhole.{reads_module}
 use Rattle.wasm_typing.specs.declared.fault.ValidWord.{ValidWord}
 use Rattle.wasm_typing.specs.Valid.{BytesInRange, Valid}
 use Rattle.wasm_typing.specs.Faults.{InvalidAt}

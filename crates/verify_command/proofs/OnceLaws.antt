@@ -11,7 +11,7 @@ use Rattle.binary_grammar.specs.ModuleGrammar.{Spells, InLimits}
 use Rattle.binary_grammar.specs.Plans.{Fault}
 use Rattle.binary_grammar.proofs.UniqueLaws.{one_module}
 use Rattle.binary_grammar.proofs.ModuleLaws.{module_again}
-use Rattle.binary_grammar.proofs.PlanModule.{stops_module}
+use Rattle.binary_grammar.proofs.PlanWhole.{stops_module}
 use Rattle.rw_edge.specs.Files.{contents_of}
 use Rattle.verify_command.specs.Reports.{Report, Files, Command, Check, Show, Verify, module_limit, module_too_long, notes_limit, notes_too_long, module_valid, module_listed, invalid_report, IsFaultReport, OfFile, OfBytes, OfModule, OfFirst, OfChecked, OfShown, OfJudged, OfNotes, OfCommand, command_of, IsReport}
 use Rattle.validity_laws.proofs.InvalidLaws.{invalid_once, valid_is_not_invalid}

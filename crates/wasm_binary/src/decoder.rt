@@ -159,20 +159,25 @@ fn add_section(draft: &mut Draft, section: Section) -> Result<(), OutOfMemory>
     Ok(())
 }
 
-fn read_sections(alloc: Global, bytes: &[u8], end: usize) -> Result<Draft, DecodeFault>
-    ensures { Gives (λ d. d) result (sections_at the_bounds (length bytes.now) no_sections end bytes.now) }
+/// Reads sections up to the end of the bytes into a draft.
+fn read_sections(
+    alloc: Global,
+    draft: &mut Draft,
+    bytes: &[u8],
+    end: usize,
+) -> Result<(), DecodeFault>
+    ensures { Gives (λ u. draft.new) result (sections_at the_bounds (length bytes.now) draft.old end bytes.now) }
 {
-    let mut draft = new_draft(alloc);
     let mut rest = bytes;
     for _ in 0..bytes.len() {
         if rest.is_empty() {
             break;
         }
         let (section, after) = read_section(alloc, draft.last, draft.declared.len(), rest, end)?;
-        add_section(&mut draft, section)?;
+        add_section(draft, section)?;
         rest = after;
     }
-    Ok(draft)
+    Ok(())
 }
 
 /// The functions of these types and bodies, and the places of their instructions.
@@ -200,27 +205,55 @@ fn join_funcs(
     Ok((funcs, code))
 }
 
+/// A module and its marks, with these functions, of bytes of this length.
+fn with_funcs(
+    module: Module,
+    marks: Marks,
+    joined: (List<Func>, List<List<usize>>),
+    len: usize,
+) -> Decoded
+    ensures { result ≡ record { «module» = record «module» { funcs = joined.0 }; marks = record marks { len = len; code = joined.1 } } }
+{
+    let (mut module, mut marks) = (module, marks);
+    module.funcs = joined.0;
+    marks.len = len;
+    marks.code = joined.1;
+    Decoded { module, marks }
+}
+
+/// The module and its marks with the functions of these types and bodies, of bytes of this length.
+#[tactic(auto, unfolding(binary_grammar::specs::SectionReading::finished_at))]
+fn finish_parts(
+    alloc: Global,
+    module: Module,
+    marks: Marks,
+    declared: List<u32>,
+    bodies: List<Body>,
+    len: usize,
+) -> Result<Decoded, DecodeFault>
+    ensures { Gives (λ d. d) result (finished_at len (record { «module» = «module»; marks = marks; declared = declared; bodies = bodies; last = 0; after = 0 })) }
+{
+    if bodies.len() != declared.len() {
+        return Err(malformed(len, DecodeWord::Count));
+    }
+    let joined = join_funcs(alloc, declared.as_slice(), bodies)?;
+    Ok(with_funcs(module, marks, joined, len))
+}
+
 /// The module behind its last section, of bytes of this length.
-#[tactic(auto, unfolding(binary_grammar::specs::SectionReading::finished_at, binary_grammar::specs::Reading::then_at, binary_grammar::specs::Reading::done_at))]
+#[tactic(auto, unfolding(binary_grammar::specs::SectionReading::finished_at))]
 fn finish(alloc: Global, draft: Draft, len: usize) -> Result<Decoded, DecodeFault>
     ensures { Gives (λ d. d) result (finished_at len draft) }
 {
     let Draft {
-        mut module,
-        mut marks,
+        module,
+        marks,
         declared,
         bodies,
         last: _,
         after: _,
     } = draft;
-    if bodies.len() != declared.len() {
-        return Err(malformed(len, DecodeWord::Count));
-    }
-    let (funcs, code) = join_funcs(alloc, declared.as_slice(), bodies)?;
-    module.funcs = funcs;
-    marks.len = len;
-    marks.code = code;
-    Ok(Decoded { module, marks })
+    finish_parts(alloc, module, marks, declared, bodies, len)
 }
 
 #[tactic(auto, unfolding(binary_grammar::specs::SectionReading::magic_at, binary_grammar::specs::Reading::then_at, binary_grammar::specs::Reading::done_at))]
@@ -258,7 +291,8 @@ fn read_module(alloc: Global, bytes: &[u8]) -> Result<Decoded, DecodeFault>
 {
     let end = bytes.len();
     let rest = read_header(bytes, end)?;
-    let draft = read_sections(alloc, rest, end)?;
+    let mut draft = new_draft(alloc);
+    read_sections(alloc, &mut draft, rest, end)?;
     finish(alloc, draft, end)
 }
 

@@ -8,7 +8,7 @@ use Rattle.binary_grammar.specs.SectionReading.{module_at}
 use Rattle.binary_grammar.specs.ModuleGrammar.{Spells, InLimits}
 use Rattle.binary_grammar.specs.declared.fault.DecodeFault.TheVariants.{Malformed, Limit, OutOfMemory}
 use Rattle.binary_grammar.specs.Plans.{Refused}
-use Rattle.binary_grammar.proofs.PlanModule.{stops_module}
+use Rattle.binary_grammar.proofs.PlanWhole.{stops_module}
 use Rattle.binary_grammar.proofs.ModuleLaws.{module_takes, module_again}
 use Rattle.wasm_binary.proofs.decoder.decode.Goals as goal
 
