@@ -1,5 +1,5 @@
 -- What each stage reports, put together from what the layers below answer.
-use Rattle.std.proofs.Common.{◌≡◌, ℕ, ◌<◌, ◌≤◌, List, length, Option, Some, None, Result, Ok, Err, refl, subst, arith, ◌⊎◌, inl, inr}
+use Rattle.std.proofs.Common.{◌≡◌, ℕ, ◌<◌, ◌≤◌, List, length, Option, Some, None, Result, Ok, Err, refl, sym, subst, arith, ◌⊎◌, inl, inr}
 use Rattle.std.specs.Prelude.{IfSome, IsSome, IsSomeAnd, IfOk}
 use Rattle.wasm_syntax.specs.declared.module.Module.{Module}
 use Rattle.wasm_syntax.specs.declared.module.Marks.{Marks}
@@ -117,6 +117,24 @@ invalid_made holds Next m k r e at w is answer said =
     let F : ValidFault → Type 0 = λ f. Answers holds (λ at w. InvalidAt m k at w × (Valid m → ⊥)) (Err f) in
     let i : InvalidAt m k at w × (Valid m → ⊥) = subst F is answer in
     invalid Next m k r at w i.0 said
+
+-- a valid module of which one thing is said
+pub valid_said : {E : Type 0} (Next : Module → Marks → Report → Type 0) (made : Result reports.Report E) (m : Module) (k : Marks) (said : Report) → Valid m → Next m k said →
+    IfOk made (λ r. seen r ≡ said) → IfOk made (λ r. OfModule Next m k (seen r))
+valid_said Next (Ok r) m k said v next e = let N : Report → Type 0 = λ q. Next m k q in valid Next m k (seen r) v (subst N (sym e) next)
+valid_said Next (Err f) m k said v next h = tt
+
+-- a module that isn't valid, of which that is said
+pub invalid_said : {A E : Type 0} (holds : A → Type 0) (Next : Module → Marks → Report → Type 0) (made : Result reports.Report E) (m : Module) (k : Marks) (e : ValidFault) (at : ℕ) (w : ValidWord) → e ≡ fault.Invalid at w →
+    Answers holds (λ at w. InvalidAt m k at w × (Valid m → ⊥)) (Err e) → IfOk made (λ r. seen r ≡ invalid_report at w) → IfOk made (λ r. OfModule Next m k (seen r))
+invalid_said holds Next (Ok r) m k e at w is answer said = invalid_made holds Next m k (seen r) e at w is answer said
+invalid_said holds Next (Err f) m k e at w is answer h = tt
+
+-- a module that isn't of the form First, of which that is said
+pub not_first_said : {E : Type 0} (made : Result reports.Report E) (text : List ℕ) (m : Module) (k : Marks) → (IsFirst m → ⊥) →
+    IfOk made (λ r. seen r ≡ unbuilt_module) → IfOk made (λ r. OfFirst text m k (seen r))
+not_first_said (Ok r) text m k is said = not_first text m k (seen r) is said
+not_first_said (Err f) text m k is h = tt
 
 -- a module of the form First
 pub first_made : {E : Type 0} (made : Result reports.Report E) (text : List ℕ) (m : Module) (k : Marks) → IsFirst m →

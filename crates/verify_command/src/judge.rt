@@ -34,7 +34,7 @@ fn outlined(
     ensures spoken { IfOk result (λ r. IsSpoken r.status) }
 {
     match check_module(alloc, module, notes, marks) {
-        Ok(Answer::Verified) => Ok(fixed(alloc, b"verified\n", Status::Good)?),
+        Ok(Answer::Verified) => fixed(alloc, b"verified\n", Status::Good),
         Ok(
             Answer::Failed {
                 at,
@@ -63,7 +63,7 @@ fn noted(alloc: Global, module: &ValidModule, marks: &Marks, notes: &[u8]) -> Re
 {
     match read_notes(alloc, notes) {
         Ok(notes) => outlined(alloc, module, marks, &notes),
-        Err(ReadError::OtherForm) => Ok(fixed(alloc, b"unbuilt notes\n", Status::Negative)?),
+        Err(ReadError::OtherForm) => fixed(alloc, b"unbuilt notes\n", Status::Negative),
         Err(ReadError::Memory) => Err(Stop::Memory),
     }
 }
@@ -83,7 +83,7 @@ fn judged_valid(
     if is_first(module) {
         noted(alloc, module, marks, notes)
     } else {
-        Ok(fixed(alloc, b"unbuilt module\n", Status::Negative)?)
+        fixed(alloc, b"unbuilt module\n", Status::Negative)
     }
 }
 
@@ -97,7 +97,7 @@ fn judged_module(alloc: Global, decoded: Decoded, notes: &[u8]) -> Result<Report
     let Decoded { module, marks } = decoded;
     match validate(alloc, module, &marks) {
         Ok(valid) => judged_valid(alloc, &valid, &marks, notes),
-        Err(ValidFault::Invalid { at, word }) => Ok(invalid(alloc, at, word)?),
+        Err(ValidFault::Invalid { at, word }) => invalid(alloc, at, word),
         Err(ValidFault::OutOfMemory) => Err(Stop::Memory),
     }
 }

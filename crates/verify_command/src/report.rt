@@ -1,5 +1,6 @@
-ghost use Rattle.std.specs.Prelude.{◌≡◌, IfOk};
+ghost use Rattle.std.specs.Prelude.{◌≡◌, IfOk, IfErr};
 ghost use Rattle.verify_command.specs.Reports.{seen};
+ghost use Rattle.verify_command.specs.Outcomes.{IsSpoken};
 
 use crate::status::Status;
 use std::alloc::{AllocError, Global};
@@ -41,8 +42,11 @@ impl From<OutOfMemory> for Stop {
 }
 
 /// A report of one line that never differs.
-pub fn fixed(alloc: Global, text: &[u8], status: Status) -> Result<Report, AllocError>
-    ensures { IfOk result (λ r. seen r ≡ record { text = text.now; status = status }) }
+pub fn fixed(alloc: Global, text: &[u8], status: Status) -> Result<Report, Stop>
+    requires { IsSpoken status }
+    ensures made { IfOk result (λ r. seen r ≡ record { text = text.now; status = status }) }
+    ensures memory { IfErr result (λ stop. stop ≡ Stop.Memory) }
+    ensures spoken { IfOk result (λ r. IsSpoken r.status) }
 {
     Ok(Report {
         text: Vec::from_slice(alloc, text)?,

@@ -10,10 +10,9 @@ use crate::report::{Report, Stop, fixed, negative};
 use crate::status::Status;
 use binary_grammar::{DecodeFault, Decoded};
 use module_listing::listing;
-use std::alloc::{AllocError, Global};
+use std::alloc::Global;
 use wasm_binary::decode;
 use wasm_validate::{ValidFault, ValidWord, validate};
-use wasm_values::OutOfMemory;
 
 /// The bytes' fault.
 pub fn faulty(alloc: Global, fault: DecodeFault) -> Result<Report, Stop>
@@ -35,8 +34,10 @@ pub fn faulty(alloc: Global, fault: DecodeFault) -> Result<Report, Stop>
 }
 
 /// A module's first fault.
-pub fn invalid(alloc: Global, at: usize, word: ValidWord) -> Result<Report, AllocError>
-    ensures { IfOk result (λ r. seen r ≡ invalid_report at word) }
+pub fn invalid(alloc: Global, at: usize, word: ValidWord) -> Result<Report, Stop>
+    ensures made { IfOk result (λ r. seen r ≡ invalid_report at word) }
+    ensures memory { IfErr result (λ stop. stop ≡ Stop.Memory) }
+    ensures spoken { IfOk result (λ r. IsSpoken r.status) }
 {
     let text = word_line(alloc, b"invalid", valid_text(word), at)?;
     Ok(negative(text))
@@ -51,8 +52,8 @@ fn checked_module(alloc: Global, decoded: Decoded) -> Result<Report, Stop>
 {
     let Decoded { module, marks } = decoded;
     match validate(alloc, module, &marks) {
-        Ok(_) => Ok(fixed(alloc, b"valid\n", Status::Good)?),
-        Err(ValidFault::Invalid { at, word }) => Ok(invalid(alloc, at, word)?),
+        Ok(_) => fixed(alloc, b"valid\n", Status::Good),
+        Err(ValidFault::Invalid { at, word }) => invalid(alloc, at, word),
         Err(ValidFault::OutOfMemory) => Err(Stop::Memory),
     }
 }
@@ -70,9 +71,11 @@ pub fn checked(alloc: Global, bytes: &[u8]) -> Result<Report, Stop>
 }
 
 // The listing of a module.
-fn listed(alloc: Global, decoded: &Decoded) -> Result<Report, OutOfMemory>
+fn listed(alloc: Global, decoded: &Decoded) -> Result<Report, Stop>
     requires { Marked decoded.now.module decoded.now.marks }
-    ensures { IfOk result (λ r. seen r ≡ module_listed decoded.now.module decoded.now.marks) }
+    ensures made { IfOk result (λ r. seen r ≡ module_listed decoded.now.module decoded.now.marks) }
+    ensures memory { IfErr result (λ stop. stop ≡ Stop.Memory) }
+    ensures spoken { IfOk result (λ r. IsSpoken r.status) }
 {
     let text = listing(alloc, &decoded.module, &decoded.marks)?;
     Ok(Report {
@@ -88,7 +91,7 @@ pub fn shown(alloc: Global, bytes: &[u8]) -> Result<Report, Stop>
     ensures spoken { IfOk result (λ r. IsSpoken r.status) }
 {
     match decode(alloc, bytes) {
-        Ok(decoded) => Ok(listed(alloc, &decoded)?),
+        Ok(decoded) => listed(alloc, &decoded),
         Err(fault) => faulty(alloc, fault),
     }
 }

@@ -2,8 +2,8 @@ use Rattle.std.proofs.Common.{◌≡◌}
 use Rattle.wasm_syntax.specs.declared.module.Module.{Module}
 use Rattle.wasm_typing.specs.declared.fault.ValidFault.TheVariants as fault
 use Rattle.wasm_typing.specs.Valid.{Valid}
-use Rattle.verify_command.specs.Reports.{OfFirst, seen}
-use Rattle.verify_command.proofs.ReportLaws.{valid_made, invalid_made}
+use Rattle.verify_command.specs.Reports.{OfFirst}
+use Rattle.verify_command.proofs.ReportLaws.{valid_made, invalid_said}
 use Rattle.verify_command.proofs.judge.judged_module.Goals as goal
 
 pub returns-in-Ok-clause-made : goal.returns-in-Ok-clause-made
@@ -13,5 +13,5 @@ returns-in-Ok-clause-made c =
 pub returns-in-Err-Invalid-clause-made : goal.returns-in-Err-Invalid-clause-made
 returns-in-Err-Invalid-clause-made c =
     let e : c.in-Err-Invalid.field-0 ≡ fault.Invalid c.in-Err-Invalid.at c.in-Err-Invalid.word = cc in
-    invalid_made (λ (v : Module). (v ≡ c.args.decoded.module) × Valid c.args.decoded.module) (OfFirst c.args.notes.now) c.args.decoded.module c.args.decoded.marks (seen c.in_ok-invalid-in-Err-Invalid.field-0)
-    c.in-Err-Invalid.field-0 c.in-Err-Invalid.at c.in-Err-Invalid.word e c.in-Err-Invalid.ensures c.in_ok-invalid-in-Err-Invalid.ensures
+    invalid_said (λ (v : Module). (v ≡ c.args.decoded.module) × Valid c.args.decoded.module) (OfFirst c.args.notes.now) c.invalid.result c.args.decoded.module c.args.decoded.marks
+    c.in-Err-Invalid.field-0 c.in-Err-Invalid.at c.in-Err-Invalid.word e c.in-Err-Invalid.ensures c.invalid.ensures.made

@@ -1,17 +1,17 @@
-use Rattle.std.proofs.Common.{◌≡◌}
+use Rattle.std.proofs.Common.{◌≡◌, refl}
 use Rattle.wasm_syntax.specs.declared.module.Module.{Module}
 use Rattle.wasm_typing.specs.declared.fault.ValidFault.TheVariants as fault
 use Rattle.wasm_typing.specs.Valid.{Valid}
-use Rattle.verify_command.specs.Reports.{module_valid, seen}
-use Rattle.verify_command.proofs.ReportLaws.{valid, invalid_made}
+use Rattle.verify_command.specs.Reports.{module_valid}
+use Rattle.verify_command.proofs.ReportLaws.{valid_said, invalid_said}
 use Rattle.verify_command.proofs.stages.checked_module.Goals as goal
 
 pub returns-in-Ok-clause-made : goal.returns-in-Ok-clause-made
 returns-in-Ok-clause-made c =
-    valid (λ m k r. r ≡ module_valid) c.args.decoded.module c.args.decoded.marks (seen c.in_ok-fixed-in-Ok.field-0) c.in-Ok.ensures.1 c.in_ok-fixed-in-Ok.ensures
+    valid_said (λ m k r. r ≡ module_valid) c.fixed.result c.args.decoded.module c.args.decoded.marks module_valid c.in-Ok.ensures.1 refl c.fixed.ensures.made
 
 pub returns-in-Err-Invalid-clause-made : goal.returns-in-Err-Invalid-clause-made
 returns-in-Err-Invalid-clause-made c =
     let e : c.in-Err-Invalid.field-0 ≡ fault.Invalid c.in-Err-Invalid.at c.in-Err-Invalid.word = cc in
-    invalid_made (λ (v : Module). (v ≡ c.args.decoded.module) × Valid c.args.decoded.module) (λ m k r. r ≡ module_valid) c.args.decoded.module c.args.decoded.marks (seen c.in_ok-invalid-in-Err-Invalid.field-0)
-    c.in-Err-Invalid.field-0 c.in-Err-Invalid.at c.in-Err-Invalid.word e c.in-Err-Invalid.ensures c.in_ok-invalid-in-Err-Invalid.ensures
+    invalid_said (λ (v : Module). (v ≡ c.args.decoded.module) × Valid c.args.decoded.module) (λ m k r. r ≡ module_valid) c.invalid.result c.args.decoded.module c.args.decoded.marks
+    c.in-Err-Invalid.field-0 c.in-Err-Invalid.at c.in-Err-Invalid.word e c.in-Err-Invalid.ensures c.invalid.ensures.made
