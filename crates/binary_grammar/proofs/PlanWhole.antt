@@ -16,7 +16,7 @@ use Rattle.binary_grammar.specs.Bounds.{Bounds}
 use Rattle.binary_grammar.specs.Reading.{◌>>=◌, place, then_at, sized_at}
 use Rattle.binary_grammar.specs.SectionReading.{contents_at, id_at, section_at, with_section, no_sections, sections_at, whole_module, finished_at, header, header_at, module_at}
 use Rattle.binary_grammar.specs.ModuleGrammar.{given, Rising, AreParts}
-use Rattle.binary_grammar.specs.Readings.{FileEnd, Left, accept, Plan, Complete, Want, andThen}
+use Rattle.binary_grammar.specs.Readings.{FileEnd, Left, accept, Plan, Complete, Want, andThen, ReadsTo}
 use Rattle.binary_grammar.specs.Plans.{sized_plan, contents_plan, last_behind, declared_behind, sections_plan, functions_of, bodies_of, module_plan, whole_file, ReadsModule, Fault}
 use Rattle.binary_grammar.proofs.Drafts.{MayStand, with_sections}
 use Rattle.binary_grammar.proofs.DraftLaws.{stand_rising, Gives, gives, parts_of, decoded, module_same, marks_same}
@@ -355,6 +355,14 @@ reads_module most bytes r =
           let k = known most bytes h.0 e in
           module_gives most bytes ∙ ap (λ v. v >>= λ ss. Ok (module_of len ss)) e ∙ ap ok (module_is len h.0 r k.given h.2 h.3),
     )
+
+-- a complete reading alone makes a module and its marks
+pub reading_module : (most : Bounds) (bytes : List ℕ) (ss : List Section) → ReadsTo (module_plan most (length bytes)) (whole_file bytes) ss → (r : Decoded) × AreParts ss r.module r.marks × (r.marks.len ≡ length bytes)
+reading_module most bytes ss h =
+    let len = length bytes in
+    let e : whole most bytes ≡ Ok ss = sym (module_agrees most bytes) ∙ ap value_of (reads_run (module_plan most len) (whole_file bytes) h.0 ss h.1 h.2) in
+    let k = known most bytes ss e in
+    (module_of len ss, parts_of ss len (draft ss) k.given k.count, refl)
 
 pub stops_module : (most : Bounds) (bytes : List ℕ) (f : DecodeFault) → (module_at most bytes ≡ Err f) ↔ Fault most bytes f
 stops_module most bytes f =

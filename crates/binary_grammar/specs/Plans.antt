@@ -248,7 +248,7 @@ sections_plan len most (suc n) last declared = Want (Next last) (λ o. elim o as
       andThen (sections_plan len most n (last_behind last s) (declared_behind declared s)) (λ ss. Complete (s ∷ ss)))
 ])
 
--- How many functions are declared by sections, each of which has its body.
+-- How many functions sections declare. Each has a body in the code section.
 abbrev pub functions_of : List Section → ℕ
 functions_of ss = length (given function_section ([], []) ss).0
 

@@ -7,18 +7,20 @@ ghost use Rattle.binary_grammar.specs.declared.section.Decoded.{Decoded};
 ghost use Rattle.binary_grammar.specs.declared.section.Section.{Section};
 ghost use Rattle.binary_grammar.specs.Bounds.{the_bounds};
 ghost use Rattle.binary_grammar.specs.SectionReading.{module_at};
-ghost use Rattle.binary_grammar.specs.ModuleGrammar.{Spells, InLimits};
-ghost use Rattle.binary_grammar.specs.Readings.{Item, Wanted, Given, Left, Plan, Want, Reads, accept};
-ghost use Rattle.binary_grammar.specs.Plans.{ReadsModule, Fault};
+ghost use Rattle.binary_grammar.specs.ModuleGrammar.{Spells, InLimits, AreParts};
+ghost use Rattle.binary_grammar.specs.Readings.{Item, Wanted, Given, Left, Plan, Want, Reads, ReadsTo, accept};
+ghost use Rattle.binary_grammar.specs.Plans.{ReadsModule, Fault, module_plan, whole_file};
 
 /// Bytes spell at most one module, with one set of marks.
 pub fn one_module()
     ensures { (bytes : List ℕ) (m n : Module) (j k : Marks) → Spells bytes m j → Spells bytes n k → (m ≡ n) × (j ≡ k) }
 {}
 
-/// A complete reading exists exactly where the bytes spell a module within the limits, and gives that module.
+/// A complete reading exists exactly where the bytes spell a module within the limits, and gives that module: its sections
+/// are always the parts of one, with its marks.
 pub fn complete_readings()
-    ensures { (bytes : List ℕ) (r : Decoded) → ReadsModule the_bounds bytes r ↔ (Spells bytes r.module r.marks × InLimits the_bounds r.module) }
+    ensures spelled { (bytes : List ℕ) (r : Decoded) → ReadsModule the_bounds bytes r ↔ (Spells bytes r.module r.marks × InLimits the_bounds r.module) }
+    ensures parts { (bytes : List ℕ) (sections : List Section) → ReadsTo (module_plan the_bounds (length bytes)) (whole_file bytes) sections → (r : Decoded) × AreParts sections r.module r.marks × (r.marks.len ≡ length bytes) }
 {}
 
 /// What the bytes are read as, item by item, is their complete reading, or their fault.
