@@ -7,7 +7,7 @@ use std::alloc::Global;
 use std::test::Fail;
 use type_safety::the_first_is_typed;
 use wasm_instantiate::add_host;
-use wasm_store::{Config, Extern};
+use wasm_store::{Config, Extern, Outcome};
 use wasm_syntax::FuncType;
 use wasm_values::List;
 
@@ -33,6 +33,17 @@ fn enter_sample(alloc: Global, config: &mut Config) -> Result<(), Fail>
 {
     load(alloc, config, SAMPLE, &Vec::new(alloc))?;
     enter(alloc, config, 0)
+}
+
+// Before anything is instantiated nothing is there.
+#[test]
+fn nothing_at_first(rt: HostRuntime) -> Result<(), Fail> {
+    let config = Config::new(rt.alloc());
+    assert_eq!(rt; *config.outcome(), Outcome::Done(List::new(rt.alloc())));
+    assert_eq!(rt; config.frame_count(), 0);
+    assert_eq!(rt; config.top_instance(), None);
+    assert_eq!(rt; config.host_top(), None);
+    Ok(())
 }
 
 #[test]

@@ -6,8 +6,6 @@ mod config;
 pub mod laws;
 mod read;
 mod store;
-#[cfg(test)]
-mod tests;
 
 pub use config::{CodeFrame, Config, Frame, Label, Outcome};
 pub use store::{Extern, FuncInst, GlobalInst, Instance, MemInst, Store, TableInst};
