@@ -5,8 +5,6 @@ mod entry;
 mod instrs;
 mod names;
 mod sections;
-#[cfg(test)]
-mod tests;
 mod text;
 
 pub use sections::listing;

@@ -11,8 +11,6 @@ mod notes;
 mod place;
 mod state;
 mod stop;
-#[cfg(test)]
-mod tests;
 mod walk;
 
 pub use answer::{Answer, CheckFault, Reason};

@@ -489,3 +489,104 @@ pub const PREFIXES: &[(usize, usize, &[u8])] = &[
     (35, 43, b"malformed: size at 0x00000022\n"),
     (43, 44, b"valid\n"),
 ];
+
+/// Modules behind their header, and how each is listed: one with each kind of entry, and one with items of code that print
+/// in ways of their own.
+pub const LISTINGS: &[(&[u8], &[u8])] = &[
+    (
+        &[
+            1, 10, 2, 0x60, 0, 0, 0x60, 2, 0x7f, 0x7e, 1, 0x7e, // types
+            2, 30, 4, 1, 0x6d, 1, 0x66, 0, 0, 1, 0x6d, 1, 0x74, 1, 0x70, 1, 1, 2, 1, 0x6d, 0, 2, 1,
+            1, 2, 1, 0x6d, 1, 0x67, 3, 0x7f, 1, // imports
+            3, 2, 1, 0, // functions
+            4, 4, 1, 0x70, 0, 3, // tables
+            5, 3, 1, 0, 3, // memories
+            6, 11, 2, 0x7f, 1, 0x41, 7, 0x0b, 0x7e, 0, 0x41, 7, 0x0b, // globals
+            7, 22, 4, 1, 0x66, 0, 0, 6, 0x61, 0x22, 0x62, 0x5c, 0x63, 0x0a, 1, 1, 1, 0x6d, 2, 0, 1,
+            0x67, 3, 1, // exports
+            8, 1, 1, // start
+            9, 6, 1, 1, 0x0b, 2, 0, 1, // elements
+            10, 8, 1, 6, 0, 0x41, 7, 0x24, 0, 0x0b, // code
+            11, 5, 1, 0, 0x0b, 1, 255, // data
+            0, 3, 2, 0xc3, 0xa9, // custom
+        ],
+        b"type 0: [] -> []
+type 1: [i32 i64] -> [i64]
+import 0: \"m\" \"f\" func 0
+import 1: \"m\" \"t\" table 1 2
+import 2: \"m\" \"\" memory 1 2
+import 3: \"m\" \"g\" global mut i32
+function 1: type 0
+table 1: 3
+memory 1: 3
+global 1: mut i32
+global 2: i64
+export 0: \"f\" func 0
+export 1: \"a\\22b\\5cc\\0a\" table 1
+export 2: \"m\" memory 0
+export 3: \"g\" global 1
+start: 1
+elem 0: 2
+code 1
+  0x00000078 i32.const 7
+  0x0000007a global.set 0
+  0x0000007c end
+data 0: 1
+custom: \"\\c3\\a9\" 0
+",
+    ),
+    (
+        &[
+            1, 4, 1, 0x60, 0, 0, 3, 2, 1, 0, 10, 30, 1, 28, 0, 0x02, 0x40, 0x03, 0x7e, 0x0e, 2, 0,
+            2, 1, 0x35, 2, 16, 0x42, 0x7f, 0x88, 0x11, 3, 0, 0x40, 0, 0x04, 0x40, 0x05, 0x0b, 0x0b,
+            0x0b, 0x0b,
+        ],
+        b"type 0: [] -> []
+function 0: type 0
+code 0
+  0x00000017 block
+  0x00000019 loop i64
+  0x0000001b br_table 0 2 1
+  0x00000020 i64.load32_u 2 16
+  0x00000023 i64.const 18446744073709551615
+  0x00000025 i64.shr_u
+  0x00000026 call_indirect 3
+  0x00000029 memory.grow
+  0x0000002b if
+  0x0000002d else
+  0x0000002e end
+  0x0000002f end
+  0x00000030 end
+  0x00000031 end
+",
+    ),
+];
+
+/// Notes for the example, and what is said of them: one at an instruction that isn't there, an assertion of a global that
+/// isn't there, a `with` of an earlier fact, and an assertion before the global is set.
+pub const NOTES: &[(&[u8], &[u8])] = &[
+    (
+        b"(notes 1 (assert 0 ((= (global 1) 7)) ())
+ (initial () ((have (= (global 1) 7) (eval (= (global 1) 7) () ()))) (with () (0) ()))
+ (func 0 (at 3 (have (= (global 1) 7) (eval (= (global 1) 7) () ())) (with () (3) ()))))",
+        b"failed: notes at 0x00000000\n",
+    ),
+    (
+        b"(notes 1 (assert 0 ((= (global 1) 7)) ())
+ (initial () ((have (= (global 1) 7) (eval (= (global 1) 7) () ()))) (with () (0) ()))
+ (func 0 (at 2 (have (= (global 1) 7) (eval (= (global 1) 7) () ())) (with () (3) ()))))",
+        b"failed: scope at 0x00000000\n",
+    ),
+    (
+        b"(notes 1 (assert 0 ((= (global 0) 7)) ())
+ (initial () ((have (= (global 0) 7) (eval (= (global 0) 7) () ()))) (with () (0) ()))
+ (func 0 (at 2 (have (= (global 0) 7) (eval (= (global 0) 7) () ())) (with () (2) ()))))",
+        b"failed: fact at 0x0000002a in function 0\n",
+    ),
+    (
+        b"(notes 1 (assert 0 ((= (global 0) 7)) ())
+ (initial () ((have (= (global 0) 7) (eval (= (global 0) 7) () ()))) (with () (0) ()))
+ (func 0 (at 1 (have (= (global 0) 7) (eval (= (global 0) 7) () ())) (with () (3) ()))))",
+        b"failed: derivation 0 at 0x00000028 in function 0\n",
+    ),
+];

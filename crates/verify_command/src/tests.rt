@@ -1,6 +1,6 @@
 ghost use Rattle.std.specs.Prelude.{◌<◌};
 
-use crate::cases::{BODIES, PREFIXES, SECTIONS};
+use crate::cases::{BODIES, LISTINGS, NOTES, PREFIXES, SECTIONS};
 use crate::run::run;
 use crate::status::Status;
 use rw_edge::{MemShelf, MemSink};
@@ -20,7 +20,7 @@ const EIGHT: [u8; 43] = [
     7, 5, 1, 1, 0x66, 0, 0, 10, 8, 1, 6, 0, 0x41, 8, 0x24, 0, 0x0b,
 ];
 
-const NOTES: &[u8] = b"(notes 1 (assert 0 ((= (global 0) 7)) ())
+const VERIFIED: &[u8] = b"(notes 1 (assert 0 ((= (global 0) 7)) ())
  (initial () ((have (= (global 0) 7) (eval (= (global 0) 7) () ()))) (with () (0) ()))
  (func 0 (at 2 (have (= (global 0) 7) (eval (= (global 0) 7) () ())) (with () (3) ()))))";
 
@@ -34,8 +34,32 @@ code 0
   0x0000002a end
 ";
 
-// What a run comes to and writes over this module `m` and the notes `n`, into a sink that takes `take` bytes at once
+// What a run comes to and writes over this module `m` and these notes `n`, into a sink that takes `take` bytes at once
 // and fails at its write `failing`.
+fn outcome_with(
+    alloc: Global,
+    words: &[&str],
+    module: Vec<u8>,
+    notes: Vec<u8>,
+    take: usize,
+    failing: u64,
+) -> Result<(Status, MemSink), Fail>
+    requires { 0 < take }
+{
+    let mut files = Vec::new(alloc);
+    files.push((Text::from_str(alloc, "m")?, Bytes::from_vec(module)))?;
+    files.push((Text::from_str(alloc, "n")?, Bytes::from_vec(notes)))?;
+    let mut shelf = MemShelf::new(files, Vec::new(alloc));
+    let mut sink = MemSink::with_room(alloc, 1000, take, [failing].to_vec(alloc)?)?;
+    let mut spoken = Vec::new(alloc);
+    for word in words {
+        spoken.push(String::from_str(alloc, word)?)?;
+    }
+    let status = run(alloc, &spoken, &mut shelf, &mut sink);
+    Ok((status, sink))
+}
+
+// The same with the notes by which the example is verified.
 fn outcome(
     alloc: Global,
     words: &[&str],
@@ -45,20 +69,7 @@ fn outcome(
 ) -> Result<(Status, MemSink), Fail>
     requires { 0 < take }
 {
-    let mut files = Vec::new(alloc);
-    files.push((Text::from_str(alloc, "m")?, Bytes::from_vec(module)))?;
-    files.push((
-        Text::from_str(alloc, "n")?,
-        Bytes::from_vec(NOTES.to_vec(alloc)?),
-    ))?;
-    let mut shelf = MemShelf::new(files, Vec::new(alloc));
-    let mut sink = MemSink::with_room(alloc, 1000, take, [failing].to_vec(alloc)?)?;
-    let mut spoken = Vec::new(alloc);
-    for word in words {
-        spoken.push(String::from_str(alloc, word)?)?;
-    }
-    let status = run(alloc, &spoken, &mut shelf, &mut sink);
-    Ok((status, sink))
+    outcome_with(alloc, words, module, VERIFIED.to_vec(alloc)?, take, failing)
 }
 
 #[test]
@@ -116,6 +127,19 @@ fn other_commands(rt: HostRuntime) -> Result<(), Fail> {
     Ok(())
 }
 
+#[test]
+fn refused_notes(rt: HostRuntime) -> Result<(), Fail> {
+    let alloc = rt.alloc();
+    for (notes, said) in NOTES {
+        let words = ["verify", "m", "n"];
+        let module = MODULE.to_vec(alloc)?;
+        let refused = outcome_with(alloc, &words, module, notes.to_vec(alloc)?, 99, 99)?;
+        assert_eq!(rt; refused.0, Status::Negative);
+        assert_eq!(rt; refused.1.written(), *said);
+    }
+    Ok(())
+}
+
 // A module of one function with this type and body.
 fn with_body(alloc: Global, ty: u8, body: &[u8]) -> Result<Vec<u8>, Fail> {
     let size = body.len().min(100) as u8;
@@ -162,6 +186,18 @@ fn sections(rt: HostRuntime) -> Result<(), Fail> {
             99,
         )?;
         assert_eq!(rt; checked.1.written(), *said);
+    }
+    Ok(())
+}
+
+#[test]
+fn listings(rt: HostRuntime) -> Result<(), Fail> {
+    let alloc = rt.alloc();
+    for (sections, listing) in LISTINGS {
+        let module = with_header(alloc, sections, 0)?;
+        let listed = outcome(alloc, &["show", "m"], module, 999, 99)?;
+        assert_eq!(rt; listed.0, Status::Good);
+        assert_eq!(rt; listed.1.written(), *listing);
     }
     Ok(())
 }
