@@ -15,7 +15,7 @@ use term_logic::{IdFormula, TermId, TermTable};
 use wasm_values::{IntOp, NumOp, ValType};
 
 /// A side of an equation or of an inequality, over terms of a table.
-#[derive(Clone, Copy, Debug)]
+#[derive(Clone, Copy)]
 pub(crate) enum Side {
     Id(TermId),
     Number(i128),
@@ -37,7 +37,7 @@ pub(crate) enum Side {
 }
 
 /// A claim on two sides.
-#[derive(Clone, Copy, Debug)]
+#[derive(Clone, Copy)]
 pub(crate) enum Claim {
     Eq(Side, Side),
     Ne(Side, Side),

@@ -22,7 +22,7 @@ pub struct Formula {
 }
 
 /// One step of a derivation, with its conclusion.
-#[derive(Debug, PartialEq, Drop)]
+#[derive(Debug, Drop)]
 pub struct Step {
     pub rule: Rule,
     pub formula: Formula,
@@ -30,33 +30,33 @@ pub struct Step {
 }
 
 /// The formulas of an assertion.
-#[derive(Debug, PartialEq, Drop)]
+#[derive(Debug, Drop)]
 pub struct Assertion {
     pub formulas: List<Formula>,
 }
 
 /// A fact of the state for each formula of an assertion, by its number.
-#[derive(Debug, PartialEq, Drop)]
+#[derive(Debug, Drop)]
 pub struct With {
     pub facts: List<u32>,
 }
 
 /// What is done to a state before an instruction.
-#[derive(Debug, PartialEq, Drop)]
+#[derive(Debug, Drop)]
 pub enum Move {
     /// Adds a formula that the steps derive from the facts.
     Have(Formula, List<Step>),
 }
 
 /// What an instruction is given.
-#[derive(Debug, PartialEq, Drop)]
+#[derive(Debug, Drop)]
 pub enum Use {
     Nothing,
     With(With),
 }
 
 /// What is said at one instruction, by its number.
-#[derive(Debug, PartialEq, Drop)]
+#[derive(Debug, Drop)]
 pub struct Note {
     pub at: u32,
     pub moves: List<Move>,
@@ -64,21 +64,21 @@ pub struct Note {
 }
 
 /// The notes of one function, by its number.
-#[derive(Debug, PartialEq, Drop)]
+#[derive(Debug, Drop)]
 pub struct FuncNotes {
     pub func: u32,
     pub notes: List<Note>,
 }
 
 /// How the invariant is met initially.
-#[derive(Debug, PartialEq, Drop)]
+#[derive(Debug, Drop)]
 pub struct Initial {
     pub moves: List<Move>,
     pub with: With,
 }
 
 /// The notes of a module.
-#[derive(Debug, PartialEq, Drop)]
+#[derive(Debug, Drop)]
 pub struct Notes {
     pub invariant: Assertion,
     pub initial: Initial,

@@ -5,14 +5,14 @@ use std::marker::Model;
 use wasm_values::{List, OutOfMemory};
 
 /// A term of a state: a number or a variable.
-#[derive(Clone, Copy, Debug, PartialEq, Eq)]
+#[derive(Clone, Copy)]
 pub enum Term {
     Number(i128),
     Variable(u32),
 }
 
 /// A fact of a state: `(= A B)` or `(<= A B)`.
-#[derive(Clone, Copy, Debug, PartialEq, Eq)]
+#[derive(Clone, Copy)]
 pub enum Fact {
     Equal(Term, Term),
     AtMost(Term, Term),

@@ -5,14 +5,14 @@ use crate::answer::Reason;
 use wasm_values::{LimitWord, OutOfMemory};
 
 /// Why a part of the check refuses.
-#[derive(Clone, Copy, Debug, PartialEq, Eq)]
+#[derive(Clone, Copy)]
 pub enum Why {
     Reason(Reason),
     Limit(LimitWord),
 }
 
 /// A refusal with its place, and with its function where one is meant.
-#[derive(Clone, Copy, Debug, PartialEq, Eq)]
+#[derive(Clone, Copy)]
 pub struct Refusal {
     pub at: usize,
     pub function: Option<u32>,
@@ -20,7 +20,7 @@ pub struct Refusal {
 }
 
 /// What stops a part of the check: a refusal, or want of memory.
-#[derive(Clone, Copy, Debug, PartialEq, Eq)]
+#[derive(Clone, Copy)]
 pub enum Stop<W> {
     Refused(W),
     OutOfMemory,
