@@ -55,6 +55,10 @@ fresh_at : (w : Way) (ps : List (Term × ℤ)) (t : Term) (z : ℤ) (qs : List (
 fresh_at w ps t z qs e =
     ap (λ b. map (λ q. (q.0, applied w (pos 0) q.1)) (if not b then (t, z) ∷ filter (λ q. not (occurs_in ps q.0)) qs else filter (λ q. not (occurs_in ps q.0)) qs)) e
 
+fresh_past : (w : Way) (ps : List (Term × ℤ)) (t : Term) (z : ℤ) (qs : List (Term × ℤ)) → occurs_in ps t ≡ true → fresh_parts w ps ((t, z) ∷ qs) ≡ fresh_parts w ps qs
+fresh_past w ps t z qs e =
+    ap (λ b. map (λ q. (q.0, applied w (pos 0) q.1)) (if not b then (t, z) ∷ filter (λ q. not (occurs_in ps q.0)) qs else filter (λ q. not (occurs_in ps q.0)) qs)) e
+
 -- a part of known ones is known
 pub within_step : {X : Type 0} (Known : X → Type 0) (parts all : List (X × ℤ)) (i : ℕ) (p : X × ℤ) (c : ℤ) → i < length all → p ≡ get_or all i p
     → PartsWithin Known all → PartsWithin Known parts → PartsWithin Known (parts ++ ((p.0, c) ∷ []))
@@ -108,6 +112,27 @@ module _ {X : Type 0} (tree : X → Term) (w : Way) where
       ap (λ ps. gathered (shown tree ps) (fresh_parts w (shown tree first) rest)) pushed
       ∙ ap (λ ps. gathered ps (fresh_parts w (shown tree first) rest)) (shown-push parts p.0 c)
       ∙ gathered_low (shown tree parts) (fresh_parts w (shown tree first) rest) (tree p.0) (applied w (pos 0) p.1) c low
+      ∙ sym (ap (gathered (shown tree parts)) (fresh_at w (shown tree first) (tree p.0) p.1 rest out))
+      ∙ ap (λ xs. gathered (shown tree parts) (fresh_parts w (shown tree first) (shown tree xs))) (sym (dropped second i p h is))
+      ∙ before
+
+  -- one of the second parts, whose term is one of the first
+  pub fresh_skip : (parts first second : List (X × ℤ)) (i : ℕ) (p : X × ℤ) (whole : Option (List (Term × ℤ))) → i < length second → p ≡ get_or second i p
+      → occurs_in (shown tree first) (tree p.0) ≡ true
+      → gathered (shown tree parts) (fresh_parts w (shown tree first) (shown tree (drop i second))) ≡ whole
+      → gathered (shown tree parts) (fresh_parts w (shown tree first) (shown tree (drop (i + 1) second))) ≡ whole
+  fresh_skip parts first second i p whole h is known before =
+      sym (ap (gathered (shown tree parts)) (fresh_past w (shown tree first) (tree p.0) p.1 (shown tree (drop (i + 1) second)) known))
+      ∙ ap (λ xs. gathered (shown tree parts) (fresh_parts w (shown tree first) (shown tree xs))) (sym (dropped second i p h is))
+      ∙ before
+
+  -- one of the second parts isn't low
+  pub fresh_stop : (parts first second : List (X × ℤ)) (i : ℕ) (p : X × ℤ) (whole : Option (List (Term × ℤ))) → i < length second → p ≡ get_or second i p
+      → occurs_in (shown tree first) (tree p.0) ≡ false → None ≡ limited (applied w (pos 0) p.1)
+      → gathered (shown tree parts) (fresh_parts w (shown tree first) (shown tree (drop i second))) ≡ whole → None ≡ whole
+  fresh_stop parts first second i p whole h is out high before =
+      let rest = shown tree (drop (i + 1) second) in
+      gathered_high (shown tree parts) (fresh_parts w (shown tree first) rest) (tree p.0) (applied w (pos 0) p.1) high
       ∙ sym (ap (gathered (shown tree parts)) (fresh_at w (shown tree first) (tree p.0) p.1 rest out))
       ∙ ap (λ xs. gathered (shown tree parts) (fresh_parts w (shown tree first) (shown tree xs))) (sym (dropped second i p h is))
       ∙ before
