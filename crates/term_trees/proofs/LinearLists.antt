@@ -72,12 +72,12 @@ within_append {X} Known ps qs left right = All-append (λ (q : X × ℤ). Known 
 pub shown-append : {X : Type 0} (tree : X → Term) (ps qs : List (X × ℤ)) → shown tree (ps ++ qs) ≡ shown tree ps ++ shown tree qs
 shown-append {X} tree ps qs = map-append (λ (p : X × ℤ). (tree p.0, p.1)) ps qs
 
+dropped : {X : Type 0} (xs : List (X × ℤ)) (i : ℕ) (p : X × ℤ) → i < length xs → p ≡ get_or xs i p → drop i xs ≡ p ∷ drop (i + 1) xs
+dropped xs i p h is = rw (add-one, drop-cons xs i p) (ap (λ q. q ∷ drop (suc i) xs) (sym is))
+
 module _ {X : Type 0} (tree : X → Term) (w : Way) where
   shown-push : (parts : List (X × ℤ)) (x : X) (c : ℤ) → shown tree (parts ++ ((x, c) ∷ [])) ≡ shown tree parts ++ ((tree x, c) ∷ [])
   shown-push parts x c = map-append (λ p. (tree p.0, p.1)) parts ((x, c) ∷ [])
-
-  dropped : (xs : List (X × ℤ)) (i : ℕ) (p : X × ℤ) → i < length xs → p ≡ get_or xs i p → drop i xs ≡ p ∷ drop (i + 1) xs
-  dropped xs i p h is = rw (add-one, drop-cons xs i p) (ap (λ q. q ∷ drop (suc i) xs) (sym is))
 
   -- one of the first parts more
   pub kept_step : (parts more first second : List (X × ℤ)) (i : ℕ) (p : X × ℤ) (c : ℤ) (whole : Option (List (Term × ℤ))) → i < length first → p ≡ get_or first i p
@@ -144,3 +144,15 @@ module _ (w : Way) (f g : Parts) where
   joined-some c ps qs rs at kept fresh is =
       ap (λ rs. Some (c, rs)) is
       ∙ (λ j. option_and_then (λ c. option_and_then (λ ps. option_map (λ qs. (c, ps ++ qs)) (fresh j)) (kept j)) (at j))
+
+  pub joined-high : None ≡ limited (applied w f.0 g.0) → None ≡ joined w f g
+  joined-high at =
+      ap (option_and_then (λ c. option_and_then (λ ps. option_map (λ qs. (c, ps ++ qs)) (limited_parts (fresh_parts w f.1 g.1))) (limited_parts (kept_parts w f.1 g.1)))) at
+
+  pub joined-kept_high : (c : ℤ) → Some c ≡ limited (applied w f.0 g.0) → None ≡ limited_parts (kept_parts w f.1 g.1) → None ≡ joined w f g
+  joined-kept_high c at kept =
+      λ j. option_and_then (λ c. option_and_then (λ ps. option_map (λ qs. (c, ps ++ qs)) (limited_parts (fresh_parts w f.1 g.1))) (kept j)) (at j)
+
+  pub joined-fresh_high : (c : ℤ) (ps : List (Term × ℤ)) → Some c ≡ limited (applied w f.0 g.0) → Some ps ≡ limited_parts (kept_parts w f.1 g.1)
+      → None ≡ limited_parts (fresh_parts w f.1 g.1) → None ≡ joined w f g
+  joined-fresh_high c ps at kept fresh = λ j. option_and_then (λ c. option_and_then (λ ps. option_map (λ qs. (c, ps ++ qs)) (fresh j)) (kept j)) (at j)
