@@ -1,10 +1,11 @@
 -- Lists of parts that are checked one after another.
-use Rattle.std.proofs.Common.{◌≡◌, ℕ, suc, ℤ, pos, ◌+◌, ◌<◌, Bool, true, false, not, List, [], ◌∷◌, ◌++◌, map, drop, length, get_or, Option, Some, None, refl, sym, ap, subst, ◌∙◌, append_assoc, add-one, drop-cons}
+use Rattle.std.proofs.Common.{◌≡◌, ℕ, suc, ℤ, pos, ◌+◌, ◌<◌, ◌≤◌, Bool, true, false, not, ◌||◌, List, [], ◌∷◌, ◌++◌, map, drop, length, get_or, Option, Some, None, refl, sym, ap, subst, ◌∙◌, append_assoc, add-one, drop-cons}
 use Rattle.std.specs.Prelude.{filter, option_map, option_and_then, if◌then◌else◌}
-use Rattle.std.proofs.lemmas.List.{map-append}
+use Rattle.std.proofs.lemmas.List.{map-append, drop_all, append-nil}
 use Rattle.std.proofs.lemmas.List.Elements.{All-append, All-nil, All-cons}
 use Rattle.std.proofs.lemmas.Iterator.Adapters.{option_map_id}
 use Rattle.term_trees.specs.declared.term.Term.{Term}
+use Rattle.term_trees.specs.Same.{same}
 use Rattle.term_trees.specs.Normal.{is_low}
 use Rattle.term_trees.specs.declared.linear.Way.{Way}
 use Rattle.term_trees.specs.Linear.{Parts, shown, PartsWithin, coefficient_in, occurs_in, applied, limited, limited_parts, kept_parts, fresh_parts, joined}
@@ -75,6 +76,42 @@ shown-append {X} tree ps qs = map-append (λ (p : X × ℤ). (tree p.0, p.1)) ps
 dropped : {X : Type 0} (xs : List (X × ℤ)) (i : ℕ) (p : X × ℤ) → i < length xs → p ≡ get_or xs i p → drop i xs ≡ p ∷ drop (i + 1) xs
 dropped xs i p h is = rw (add-one, drop-cons xs i p) (ap (λ q. q ∷ drop (suc i) xs) (sym is))
 
+-- ---- the search for a term among the parts, from a part on
+
+module _ {X : Type 0} (tree : X → Term) (t : Term) where
+  at_part : (parts : List (X × ℤ)) (i : ℕ) (p : X × ℤ) (is_same : Bool) → i < length parts → p ≡ get_or parts i p → same (tree p.0) t ≡ is_same
+      → coefficient_in (shown tree (drop i parts)) t ≡ (if is_same then p.1 else coefficient_in (shown tree (drop (i + 1) parts)) t)
+  at_part parts i p is_same h is tested =
+      ap (λ xs. coefficient_in (shown tree xs) t) (dropped parts i p h is)
+      ∙ ap (λ b. if b then p.1 else coefficient_in (shown tree (drop (i + 1) parts)) t) tested
+
+  pub coefficient_found : (parts : List (X × ℤ)) (i : ℕ) (p : X × ℤ) (whole : ℤ) → i < length parts → p ≡ get_or parts i p → same (tree p.0) t ≡ true
+      → coefficient_in (shown tree (drop i parts)) t ≡ whole → p.1 ≡ whole
+  coefficient_found parts i p whole h is found before = sym (at_part parts i p true h is found) ∙ before
+
+  pub coefficient_step : (parts : List (X × ℤ)) (i : ℕ) (p : X × ℤ) (whole : ℤ) → i < length parts → p ≡ get_or parts i p → same (tree p.0) t ≡ false
+      → coefficient_in (shown tree (drop i parts)) t ≡ whole → coefficient_in (shown tree (drop (i + 1) parts)) t ≡ whole
+  coefficient_step parts i p whole h is other before = sym (at_part parts i p false h is other) ∙ before
+
+  pub coefficient_end : (parts : List (X × ℤ)) (i : ℕ) (whole : ℤ) → length parts ≤ i → coefficient_in (shown tree (drop i parts)) t ≡ whole → pos 0 ≡ whole
+  coefficient_end parts i whole h before = ap (λ xs. coefficient_in (shown tree xs) t) (sym (drop_all i parts h)) ∙ before
+
+  occurs_at : (parts : List (X × ℤ)) (i : ℕ) (p : X × ℤ) (is_same : Bool) → i < length parts → p ≡ get_or parts i p → same (tree p.0) t ≡ is_same
+      → occurs_in (shown tree (drop i parts)) t ≡ (is_same || occurs_in (shown tree (drop (i + 1) parts)) t)
+  occurs_at parts i p is_same h is tested =
+      ap (λ xs. occurs_in (shown tree xs) t) (dropped parts i p h is) ∙ ap (λ b. b || occurs_in (shown tree (drop (i + 1) parts)) t) tested
+
+  pub occurs_found : (parts : List (X × ℤ)) (i : ℕ) (p : X × ℤ) (whole : Bool) → i < length parts → p ≡ get_or parts i p → same (tree p.0) t ≡ true
+      → occurs_in (shown tree (drop i parts)) t ≡ whole → true ≡ whole
+  occurs_found parts i p whole h is found before = sym (occurs_at parts i p true h is found) ∙ before
+
+  pub occurs_step : (parts : List (X × ℤ)) (i : ℕ) (p : X × ℤ) (whole : Bool) → i < length parts → p ≡ get_or parts i p → same (tree p.0) t ≡ false
+      → occurs_in (shown tree (drop i parts)) t ≡ whole → occurs_in (shown tree (drop (i + 1) parts)) t ≡ whole
+  occurs_step parts i p whole h is other before = sym (occurs_at parts i p false h is other) ∙ before
+
+  pub occurs_end : (parts : List (X × ℤ)) (i : ℕ) (whole : Bool) → length parts ≤ i → occurs_in (shown tree (drop i parts)) t ≡ whole → false ≡ whole
+  occurs_end parts i whole h before = ap (λ xs. occurs_in (shown tree xs) t) (sym (drop_all i parts h)) ∙ before
+
 module _ {X : Type 0} (tree : X → Term) (w : Way) where
   shown-push : (parts : List (X × ℤ)) (x : X) (c : ℤ) → shown tree (parts ++ ((x, c) ∷ [])) ≡ shown tree parts ++ ((tree x, c) ∷ [])
   shown-push parts x c = map-append (λ p. (tree p.0, p.1)) parts ((x, c) ∷ [])
@@ -90,6 +127,14 @@ module _ {X : Type 0} (tree : X → Term) (w : Way) where
       ∙ ap (λ ps. gathered ps rest) (shown-push parts p.0 c)
       ∙ gathered_low (shown tree parts) rest (tree p.0) (applied w p.1 (coefficient_in (shown tree second) (tree p.0))) c low
       ∙ ap (λ xs. gathered (shown tree parts) (kept_parts w (shown tree xs) (shown tree second))) (sym (dropped first i p h is))
+      ∙ before
+
+  -- no first part is left
+  pub kept_end : (parts first second : List (X × ℤ)) (i : ℕ) (whole : Option (List (Term × ℤ))) → length first ≤ i
+      → gathered (shown tree parts) (kept_parts w (shown tree (drop i first)) (shown tree second)) ≡ whole → Some (shown tree parts) ≡ whole
+  kept_end parts first second i whole h before =
+      ap Some (sym (append-nil (shown tree parts)))
+      ∙ ap (λ xs. gathered (shown tree parts) (kept_parts w (shown tree xs) (shown tree second))) (sym (drop_all i first h))
       ∙ before
 
   -- one of the first parts isn't low
@@ -124,6 +169,14 @@ module _ {X : Type 0} (tree : X → Term) (w : Way) where
   fresh_skip parts first second i p whole h is known before =
       sym (ap (gathered (shown tree parts)) (fresh_past w (shown tree first) (tree p.0) p.1 (shown tree (drop (i + 1) second)) known))
       ∙ ap (λ xs. gathered (shown tree parts) (fresh_parts w (shown tree first) (shown tree xs))) (sym (dropped second i p h is))
+      ∙ before
+
+  -- no second part is left
+  pub fresh_end : (parts first second : List (X × ℤ)) (i : ℕ) (whole : Option (List (Term × ℤ))) → length second ≤ i
+      → gathered (shown tree parts) (fresh_parts w (shown tree first) (shown tree (drop i second))) ≡ whole → Some (shown tree parts) ≡ whole
+  fresh_end parts first second i whole h before =
+      ap Some (sym (append-nil (shown tree parts)))
+      ∙ ap (λ xs. gathered (shown tree parts) (fresh_parts w (shown tree first) (shown tree xs))) (sym (drop_all i second h))
       ∙ before
 
   -- one of the second parts isn't low

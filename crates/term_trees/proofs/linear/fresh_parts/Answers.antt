@@ -1,6 +1,6 @@
 use Rattle.std.proofs.Common.{rules, ◌≡◌, pos, ◌∷◌, ◌++◌, [], Some, None, true, false, subst, sym}
 use Rattle.term_trees.specs.Linear.{shown, occurs_in, applied, limited, PartsWithin}
-use Rattle.term_trees.proofs.LinearLists.{fresh_step, fresh_skip, fresh_stop, within_step}
+use Rattle.term_trees.proofs.LinearLists.{fresh_step, fresh_end, fresh_skip, fresh_stop, within_step}
 use Rattle.term_trees.proofs.linear.fresh_parts.Goals as goal
 
 pub returns-in_default-clause-parts : goal.returns-in_default-clause-parts
@@ -40,3 +40,7 @@ loop-atom-preserved g c =
           (within_step known c.loop-atom.parts.items c.args.second.now c.loop-atom.atom-index item c.in-Some.sum c.loop-atom-test.true c.loop-atom-item.is
           c.requires.second c.loop-atom.invariant.within);
     }
+
+pub returns-clause-parts : goal.returns-clause-parts
+returns-clause-parts g c =
+    fresh_end (g.A.Atoms.tree c.args.atoms.now) c.args.way c.loop-atom.parts.items c.args.first.now c.args.second.now c.loop-atom.atom-index _ c.loop-atom-test.false c.loop-atom.invariant.gathered
