@@ -1,5 +1,5 @@
 -- The derived `==` of places and of operators is equality of values.
-use Rattle.std.proofs.Common.{◌≡◌, true, refl, ap}
+use Rattle.std.proofs.Common.{◌≡◌, true, refl, sym, ap, true≢false}
 use Rattle.std.proofs.lemmas.Bool.{eqb-true}
 use denote.Enum.Bare.{same_true}
 use Rattle.wasm_values.specs.declared.number.IntOp.{IntOp}
@@ -21,7 +21,7 @@ exact_place (Global a) (Global b) e = ap Global (eqb-true a b e)
 exact_place Pages Pages e = refl
 exact_place (Arg a) (Arg b) e = ap Arg (eqb-true a b e)
 exact_place Result Result e = refl
-exact_place _ _ e = cc
+exact_place _ _ e = absurd (true≢false (sym e))
 
 exact_int_op : (x y : IntOp) → (op_eq.ghosts).eq x y ≡ true → x ≡ y
 exact_int_op x y e = same_true int_op.the_type tt x y e
@@ -32,7 +32,7 @@ exact_num_op (W64 a) (W64 b) e = ap W64 (exact_int_op a b e)
 exact_num_op Wrap Wrap e = refl
 exact_num_op ExtendS ExtendS e = refl
 exact_num_op ExtendU ExtendU e = refl
-exact_num_op _ _ e = cc
+exact_num_op _ _ e = absurd (true≢false (sym e))
 
 pub refl_place : (p : Place) → (place_eq.ghosts).eq p p ≡ true
 refl_place p = place_laws.laws-law.refl p

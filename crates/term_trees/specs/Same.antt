@@ -1,5 +1,5 @@
 -- Whether two trees are equal, as a truth value that computes.
-use Rattle.std.specs.Prelude.{Bool, false, ◌&&◌, ◌==◌, Option}
+use Rattle.std.specs.Prelude.{ℕ, Bool, false, ◌&&◌, ◌==◌, Option}
 use Rattle.std.specs.Option.{option_map_or}
 use Rattle.std.specs.Ordering.{int_eq}
 use Rattle.wasm_values.specs.contracts.number.NumOpPartialEq.TheImpl as operator
@@ -33,6 +33,14 @@ same_here (Sgn n a) t = passes (sgn_of t) (λ p. n == p.0 && a p.1)
 -- Whether two terms are the same tree.
 abbrev pub same : Term → Term → Bool
 same t u = fold-Term (Term → Bool) same_here t u
+
+-- whether there are two trees, and they are these
+abbrev pub same_parts : Term → Term → Option (Term × Term) → Bool
+same_parts a b o = passes o (λ p. same a p.0 && same b p.1)
+
+-- whether there is a number with a tree, and they are these
+abbrev pub same_counted : ℕ → Term → Option (ℕ × Term) → Bool
+same_counted k a o = passes o (λ p. k == p.0 && same a p.1)
 
 -- whether one layer is that of the formula, from whether its parts are given formulas
 abbrev pub same_formula_here : Formula-F (Formula → Bool) → Formula → Bool

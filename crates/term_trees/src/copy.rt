@@ -6,7 +6,29 @@ use std::alloc::Global;
 use wasm_values::OutOfMemory;
 
 impl Term {
+    #[cycle(copied_term)]
+    fn boxed_term(&self, alloc: Global) -> Result<Boxed<Term>, OutOfMemory>
+        ensures { IfOk result (λ b. b ≡ self.now) }
+    {
+        let t = self.copy(alloc)?;
+        Boxed::new(alloc, t)
+    }
+
+    #[cycle(copied_term)]
+    fn boxed_terms(
+        alloc: Global,
+        a: &Term,
+        b: &Term,
+    ) -> Result<(Boxed<Term>, Boxed<Term>), OutOfMemory>
+        ensures { IfOk result (λ p. (p.0 ≡ a.now) × (p.1 ≡ b.now)) }
+    {
+        let a = a.boxed_term(alloc)?;
+        let b = b.boxed_term(alloc)?;
+        Ok((a, b))
+    }
+
     /// A term that equals this one.
+    #[cycle(copied_term)]
     pub fn copy(&self, alloc: Global) -> Result<Term, OutOfMemory>
         ensures { IfOk result (λ t. t ≡ self.now) }
     {
@@ -16,35 +38,61 @@ impl Term {
             Term::Own(k) => Ok(Term::Own(*k)),
             Term::At(place) => Ok(Term::At(*place)),
             Term::Add(a, b) => {
-                let a = Boxed::new(alloc, a.get().copy(alloc)?)?;
-                let b = Boxed::new(alloc, b.get().copy(alloc)?)?;
+                let (a, b) = Term::boxed_terms(alloc, a.get(), b.get())?;
                 Ok(Term::Add(a, b))
             }
             Term::Sub(a, b) => {
-                let a = Boxed::new(alloc, a.get().copy(alloc)?)?;
-                let b = Boxed::new(alloc, b.get().copy(alloc)?)?;
+                let (a, b) = Term::boxed_terms(alloc, a.get(), b.get())?;
                 Ok(Term::Sub(a, b))
             }
             Term::Mul(a, b) => {
-                let a = Boxed::new(alloc, a.get().copy(alloc)?)?;
-                let b = Boxed::new(alloc, b.get().copy(alloc)?)?;
+                let (a, b) = Term::boxed_terms(alloc, a.get(), b.get())?;
                 Ok(Term::Mul(a, b))
             }
-            Term::One(op, a) => Ok(Term::One(*op, Boxed::new(alloc, a.get().copy(alloc)?)?)),
+            Term::One(op, a) => Ok(Term::One(*op, a.get().boxed_term(alloc)?)),
             Term::Two(op, a, b) => {
-                let a = Boxed::new(alloc, a.get().copy(alloc)?)?;
-                let b = Boxed::new(alloc, b.get().copy(alloc)?)?;
+                let (a, b) = Term::boxed_terms(alloc, a.get(), b.get())?;
                 Ok(Term::Two(*op, a, b))
             }
-            Term::Low(k, a) => Ok(Term::Low(*k, Boxed::new(alloc, a.get().copy(alloc)?)?)),
-            Term::Sext(k, n, a) => Ok(Term::Sext(*k, *n, Boxed::new(alloc, a.get().copy(alloc)?)?)),
-            Term::Sgn(n, a) => Ok(Term::Sgn(*n, Boxed::new(alloc, a.get().copy(alloc)?)?)),
+            Term::Low(k, a) => Ok(Term::Low(*k, a.get().boxed_term(alloc)?)),
+            Term::Sext(k, n, a) => Ok(Term::Sext(*k, *n, a.get().boxed_term(alloc)?)),
+            Term::Sgn(n, a) => Ok(Term::Sgn(*n, a.get().boxed_term(alloc)?)),
         }
     }
 }
 
 impl Formula {
+    fn copied_terms(alloc: Global, a: &Term, b: &Term) -> Result<(Term, Term), OutOfMemory>
+        ensures { IfOk result (λ p. (p.0 ≡ a.now) × (p.1 ≡ b.now)) }
+    {
+        let a = a.copy(alloc)?;
+        let b = b.copy(alloc)?;
+        Ok((a, b))
+    }
+
+    #[cycle(copied_formula)]
+    fn boxed_formula(&self, alloc: Global) -> Result<Boxed<Formula>, OutOfMemory>
+        ensures { IfOk result (λ b. b ≡ self.now) }
+    {
+        let f = self.copy(alloc)?;
+        Boxed::new(alloc, f)
+    }
+
+    #[cycle(copied_formula)]
+    fn boxed_formulas(
+        alloc: Global,
+        f: &Formula,
+        g: &Formula,
+    ) -> Result<(Boxed<Formula>, Boxed<Formula>), OutOfMemory>
+        ensures { IfOk result (λ p. (p.0 ≡ f.now) × (p.1 ≡ g.now)) }
+    {
+        let f = f.boxed_formula(alloc)?;
+        let g = g.boxed_formula(alloc)?;
+        Ok((f, g))
+    }
+
     /// A formula that equals this one.
+    #[cycle(copied_formula)]
     pub fn copy(&self, alloc: Global) -> Result<Formula, OutOfMemory>
         ensures { IfOk result (λ f. f ≡ self.now) }
     {
@@ -52,31 +100,28 @@ impl Formula {
             Formula::True => Ok(Formula::True),
             Formula::False => Ok(Formula::False),
             Formula::Eq(a, b) => {
-                let a = a.copy(alloc)?;
-                Ok(Formula::Eq(a, b.copy(alloc)?))
+                let (a, b) = Formula::copied_terms(alloc, a, b)?;
+                Ok(Formula::Eq(a, b))
             }
             Formula::Le(a, b) => {
-                let a = a.copy(alloc)?;
-                Ok(Formula::Le(a, b.copy(alloc)?))
+                let (a, b) = Formula::copied_terms(alloc, a, b)?;
+                Ok(Formula::Le(a, b))
             }
             Formula::Lt(a, b) => {
-                let a = a.copy(alloc)?;
-                Ok(Formula::Lt(a, b.copy(alloc)?))
+                let (a, b) = Formula::copied_terms(alloc, a, b)?;
+                Ok(Formula::Lt(a, b))
             }
-            Formula::Not(f) => Ok(Formula::Not(Boxed::new(alloc, f.get().copy(alloc)?)?)),
+            Formula::Not(f) => Ok(Formula::Not(f.get().boxed_formula(alloc)?)),
             Formula::And(f, g) => {
-                let f = Boxed::new(alloc, f.get().copy(alloc)?)?;
-                let g = Boxed::new(alloc, g.get().copy(alloc)?)?;
+                let (f, g) = Formula::boxed_formulas(alloc, f.get(), g.get())?;
                 Ok(Formula::And(f, g))
             }
             Formula::Or(f, g) => {
-                let f = Boxed::new(alloc, f.get().copy(alloc)?)?;
-                let g = Boxed::new(alloc, g.get().copy(alloc)?)?;
+                let (f, g) = Formula::boxed_formulas(alloc, f.get(), g.get())?;
                 Ok(Formula::Or(f, g))
             }
             Formula::Imp(f, g) => {
-                let f = Boxed::new(alloc, f.get().copy(alloc)?)?;
-                let g = Boxed::new(alloc, g.get().copy(alloc)?)?;
+                let (f, g) = Formula::boxed_formulas(alloc, f.get(), g.get())?;
                 Ok(Formula::Imp(f, g))
             }
         }

@@ -1,4 +1,4 @@
-ghost use Rattle.std.specs.Prelude.{◌≡◌, ◌^◌, ◌<◌, ◌+ℤ◌, ◌-ℤ◌, ◌*ℤ◌, ◌&&◌, unsigned_abs, IfSome, IsTrue};
+ghost use Rattle.std.specs.Prelude.{◌≡◌, ◌^◌, ◌<◌, ◌+ℤ◌, ◌-ℤ◌, ◌*ℤ◌, ◌&&◌, unsigned_abs, option_and_then, IfSome, IsTrue};
 ghost use Rattle.term_trees.specs.Terms.{well_formed};
 ghost use Rattle.term_trees.specs.Formulas.{well_formed_formula};
 ghost use Rattle.term_trees.specs.Ground.{bounded, both, ground_value, ground_truth};
@@ -21,32 +21,31 @@ fn bounded(value: i128) -> Option<i128>
     }
 }
 
-fn bounded_sum(a: i128, b: i128) -> Option<i128>
-    requires first { unsigned_abs a < 2 ^ 120 }
-    requires second { unsigned_abs b < 2 ^ 120 }
-    ensures value { result ≡ bounded (a +ℤ b) }
+fn bounded_sum(pair: Option<(i128, i128)>) -> Option<i128>
+    requires { IfSome pair (λ p. (unsigned_abs p.0 < 2 ^ 120) × (unsigned_abs p.1 < 2 ^ 120)) }
+    ensures value { result ≡ option_and_then (λ p. bounded (p.0 +ℤ p.1)) pair }
     ensures small { IfSome result (λ v. unsigned_abs v < 2 ^ 120) }
 {
+    let (a, b) = pair?;
     bounded(a + b)
 }
 
-fn bounded_difference(a: i128, b: i128) -> Option<i128>
-    requires first { unsigned_abs a < 2 ^ 120 }
-    requires second { unsigned_abs b < 2 ^ 120 }
-    ensures value { result ≡ bounded (a -ℤ b) }
+fn bounded_difference(pair: Option<(i128, i128)>) -> Option<i128>
+    requires { IfSome pair (λ p. (unsigned_abs p.0 < 2 ^ 120) × (unsigned_abs p.1 < 2 ^ 120)) }
+    ensures value { result ≡ option_and_then (λ p. bounded (p.0 -ℤ p.1)) pair }
     ensures small { IfSome result (λ v. unsigned_abs v < 2 ^ 120) }
 {
+    let (a, b) = pair?;
     bounded(a - b)
 }
 
-fn bounded_product(a: i128, b: i128) -> Option<i128>
-    ensures value { result ≡ bounded (a *ℤ b) }
+fn bounded_product(pair: Option<(i128, i128)>) -> Option<i128>
+    ensures value { result ≡ option_and_then (λ p. bounded (p.0 *ℤ p.1)) pair }
     ensures small { IfSome result (λ v. unsigned_abs v < 2 ^ 120) }
 {
-    match a.checked_mul(b) {
-        Some(product) => bounded(product),
-        None => None,
-    }
+    let (a, b) = pair?;
+    let product = a.checked_mul(b)?;
+    bounded(product)
 }
 
 #[cycle(ground)]
@@ -71,38 +70,29 @@ fn ground_value(t: &Term) -> Option<i128>
     match t {
         Term::Num(n) => bounded(*n),
         Term::Var(_) | Term::Own(_) | Term::At(_) => None,
-        Term::Add(a, b) => {
-            let (a, b) = two_values(a.get(), b.get())?;
-            bounded_sum(a, b)
-        }
-        Term::Sub(a, b) => {
-            let (a, b) = two_values(a.get(), b.get())?;
-            bounded_difference(a, b)
-        }
-        Term::Mul(a, b) => {
-            let (a, b) = two_values(a.get(), b.get())?;
-            bounded_product(a, b)
-        }
-        Term::One(op, a) => {
-            let a = ground_value(a.get())?;
-            bounded(one_value(*op, a))
-        }
-        Term::Two(op, a, b) => {
-            let (a, b) = two_values(a.get(), b.get())?;
-            bounded(two_value(*op, a, b))
-        }
-        Term::Low(k, a) => {
-            let a = ground_value(a.get())?;
-            bounded(low_value(*k, a))
-        }
-        Term::Sext(k, n, a) => {
-            let a = ground_value(a.get())?;
-            bounded(sext_value(*k, *n, a))
-        }
-        Term::Sgn(n, a) => {
-            let a = ground_value(a.get())?;
-            bounded(sgn_value(*n, a))
-        }
+        Term::Add(a, b) => bounded_sum(two_values(a.get(), b.get())),
+        Term::Sub(a, b) => bounded_difference(two_values(a.get(), b.get())),
+        Term::Mul(a, b) => bounded_product(two_values(a.get(), b.get())),
+        Term::One(op, a) => match ground_value(a.get()) {
+            Some(a) => bounded(one_value(*op, a)),
+            None => None,
+        },
+        Term::Two(op, a, b) => match two_values(a.get(), b.get()) {
+            Some((a, b)) => bounded(two_value(*op, a, b)),
+            None => None,
+        },
+        Term::Low(k, a) => match ground_value(a.get()) {
+            Some(a) => bounded(low_value(*k, a)),
+            None => None,
+        },
+        Term::Sext(k, n, a) => match ground_value(a.get()) {
+            Some(a) => bounded(sext_value(*k, *n, a)),
+            None => None,
+        },
+        Term::Sgn(n, a) => match ground_value(a.get()) {
+            Some(a) => bounded(sgn_value(*n, a)),
+            None => None,
+        },
     }
 }
 

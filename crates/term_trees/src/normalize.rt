@@ -1,9 +1,9 @@
-ghost use Rattle.std.specs.Prelude.{◌≡◌, IfOk, IfSome, IsTrue};
+ghost use Rattle.std.specs.Prelude.{◌≡◌, option_and_then, IfOk, IfSome, IsTrue};
 ghost use Rattle.std.specs.Option.{option_map};
 ghost use Rattle.term_trees.specs.Terms.{well_formed};
 ghost use Rattle.term_trees.specs.Ground.{both};
 ghost use Rattle.term_trees.specs.Normal.{nonzero, normal_form, well_formed_normal};
-ghost use Rattle.term_trees.specs.Linear.{shown_lent, shown_tree, linear_parts};
+ghost use Rattle.term_trees.specs.Linear.{Parts, shown_lent, shown_tree, joined, joined_product, linear_parts};
 
 use crate::atoms::Lent;
 use crate::forms::Normal;
@@ -11,6 +11,32 @@ use crate::linear::{Linear, Way, atom, joined, number, product};
 use crate::term::Term;
 use std::alloc::Global;
 use wasm_values::{List, OutOfMemory};
+
+fn both_joined<'a>(
+    alloc: Global,
+    way: Way,
+    forms: Option<(Linear<&'a Term>, Linear<&'a Term>)>,
+) -> Result<Option<Linear<&'a Term>>, OutOfMemory>
+    ensures { IfOk result (λ o. option_map shown_tree o ≡ option_and_then (λ (p : Parts × Parts). joined way p.0 p.1) (option_map (λ p. (shown_tree p.0, shown_tree p.1)) forms.entry)) }
+{
+    match forms {
+        Some((first, second)) => joined(alloc, &Lent, way, &first, &second),
+        None => Ok(None),
+    }
+}
+
+fn both_multiplied<'a>(
+    alloc: Global,
+    t: &'a Term,
+    forms: Option<(Linear<&'a Term>, Linear<&'a Term>)>,
+) -> Result<Option<Linear<&'a Term>>, OutOfMemory>
+    ensures { IfOk result (λ o. option_map shown_tree o ≡ option_and_then (λ (p : Parts × Parts). joined_product t.now p.0 p.1) (option_map (λ p. (shown_tree p.0, shown_tree p.1)) forms.entry)) }
+{
+    match forms {
+        Some((first, second)) => product(alloc, &Lent, t, &first, &second),
+        None => Ok(None),
+    }
+}
 
 #[cycle(forms)]
 fn two_forms<'a>(
@@ -37,18 +63,9 @@ fn form_of<'a>(alloc: Global, t: &'a Term) -> Result<Option<Linear<&'a Term>>, O
 {
     match t {
         Term::Num(n) => Ok(number(alloc, &Lent, *n)),
-        Term::Add(a, b) => match two_forms(alloc, a.get(), b.get())? {
-            Some((first, second)) => joined(alloc, &Lent, Way::Sum, &first, &second),
-            None => Ok(None),
-        },
-        Term::Sub(a, b) => match two_forms(alloc, a.get(), b.get())? {
-            Some((first, second)) => joined(alloc, &Lent, Way::Difference, &first, &second),
-            None => Ok(None),
-        },
-        Term::Mul(a, b) => match two_forms(alloc, a.get(), b.get())? {
-            Some((first, second)) => product(alloc, &Lent, t, &first, &second),
-            None => Ok(None),
-        },
+        Term::Add(a, b) => both_joined(alloc, Way::Sum, two_forms(alloc, a.get(), b.get())?),
+        Term::Sub(a, b) => both_joined(alloc, Way::Difference, two_forms(alloc, a.get(), b.get())?),
+        Term::Mul(a, b) => both_multiplied(alloc, t, two_forms(alloc, a.get(), b.get())?),
         Term::Var(_) | Term::Own(_) | Term::At(_) => atom(alloc, &Lent, t),
         Term::One(_, _) | Term::Two(_, _, _) => atom(alloc, &Lent, t),
         Term::Low(_, _) | Term::Sext(_, _, _) | Term::Sgn(_, _) => atom(alloc, &Lent, t),

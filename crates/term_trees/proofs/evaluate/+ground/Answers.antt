@@ -4,14 +4,14 @@ use mir.Syntax.{w128}
 use Rattle.term_trees.proofs.Grounded.{ground-sgn_at, ground-two_at, stored}
 use Rattle.term_trees.proofs.evaluate.+ground.Goals as goal
 
-pub ground_value-returns-in_ok-a-in-Two-clause-value : goal.ground_value-returns-in_ok-a-in-Two-clause-value
-ground_value-returns-in_ok-a-in-Two-clause-value t c =
-    ground-two_at _ _ _ _ _ _ _ _ _ _ c.in-Two.is c.get-in-Two.ensures c.get-in-Two-2.ensures c.in_ok-a-in-Two.ensures.value
-    (rw (stored c.in_ok-a-in-Two.a c.in_ok-a-in-Two.ensures.small.0, stored c.in_ok-a-in-Two.b c.in_ok-a-in-Two.ensures.small.1) at c.two_value.ensures)
-    (rw (to_z-of_z w128 c.two_value.result (search rules)) at c.bounded-in-Two.ensures.value)
+pub ground_value-returns-in-Some-two_values-clause-value : goal.ground_value-returns-in-Some-two_values-clause-value
+ground_value-returns-in-Some-two_values-clause-value t c =
+    ground-two_at _ _ _ _ _ _ _ _ _ _ c.in-Two.is c.get-in-Two.ensures c.get-in-Two-2.ensures c.in-Some-two_values.ensures.value
+    (rw (stored c.in-Some-two_values.a c.in-Some-two_values.ensures.small.0, stored c.in-Some-two_values.b c.in-Some-two_values.ensures.small.1) at c.two_value.ensures)
+    (rw (to_z-of_z w128 c.two_value.result (search rules)) at c.bounded-in-Some-two_values.ensures.value)
 
-pub ground_value-returns-in_ok-a-in-Sgn-clause-value : goal.ground_value-returns-in_ok-a-in-Sgn-clause-value
-ground_value-returns-in_ok-a-in-Sgn-clause-value t c =
-    ground-sgn_at _ _ _ _ _ _ _ c.in-Sgn.is c.get-in-Sgn.ensures c.in_ok-a-in-Sgn.ensures.value
-    (rw (stored c.in_ok-a-in-Sgn.a c.in_ok-a-in-Sgn.ensures.small) at c.sgn_value.ensures)
-    (rw (to_z-of_z w128 c.sgn_value.result (search rules)) at c.bounded-in-Sgn.ensures.value)
+pub ground_value-returns-in-Some-ground_value-3-clause-value : goal.ground_value-returns-in-Some-ground_value-3-clause-value
+ground_value-returns-in-Some-ground_value-3-clause-value t c =
+    ground-sgn_at _ _ _ _ _ _ _ c.in-Sgn.is c.get-in-Sgn.ensures c.in-Some-ground_value-3.ensures.value
+    (rw (stored c.in-Some-ground_value-3.a c.in-Some-ground_value-3.ensures.small) at c.sgn_value.ensures)
+    (rw (to_z-of_z w128 c.sgn_value.result (search rules)) at c.bounded-in-Some-ground_value-3.ensures.value)

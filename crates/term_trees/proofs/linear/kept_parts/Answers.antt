@@ -1,6 +1,6 @@
 use Rattle.std.proofs.Common.{rules, ◌≡◌, ◌∷◌, ◌++◌, [], Some, None, subst, sym}
 use Rattle.term_trees.specs.Linear.{shown, coefficient_in, applied, limited, PartsWithin}
-use Rattle.term_trees.proofs.LinearLists.{kept_step, kept_stop, within_step}
+use Rattle.term_trees.proofs.LinearLists.{kept_step, kept_end, kept_stop, within_step}
 use Rattle.term_trees.proofs.linear.kept_parts.Goals as goal
 
 pub returns-in_default-clause-parts : goal.returns-in_default-clause-parts
@@ -26,3 +26,7 @@ loop-atom-preserved g c =
           (within_step known c.loop-atom.parts.items c.args.first.now c.loop-atom.atom-index item c.in-Some.sum c.loop-atom-test.true c.loop-atom-item.is
           c.requires.first c.loop-atom.invariant.within);
     }
+
+pub returns-clause-parts : goal.returns-clause-parts
+returns-clause-parts g c =
+    kept_end (g.A.Atoms.tree c.args.atoms.now) c.args.way c.loop-atom.parts.items c.args.first.now c.args.second.now c.loop-atom.atom-index _ c.loop-atom-test.false c.loop-atom.invariant.gathered
