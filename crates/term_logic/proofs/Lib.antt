@@ -1,6 +1,9 @@
 pub mod Cells
 pub mod Formulas
 pub mod Interned
+pub mod Layers
+pub mod FormulaLayers
+pub mod NoLeaves
 pub mod Tables
 pub mod Trees
 pub mod Comparisons

@@ -3,9 +3,11 @@
 
 mod compare;
 mod formula;
+mod formula_parts;
 mod formula_view;
 mod id_forms;
 mod leaves;
+mod parts;
 mod put;
 mod replace;
 mod table;

@@ -156,7 +156,34 @@ impl TermTable {
         Ok(TermId { at })
     }
 
+    #[cycle(trees)]
+    fn boxed_tree(&self, alloc: Global, id: TermId) -> Result<Boxed<Term>, OutOfMemory>
+        requires { id < length self.now }
+        ensures { IfOk result (λ b. b ≡ tree_at self.now id) }
+    {
+        let tree = self.tree(id)?;
+        Boxed::new(alloc, tree)
+    }
+
+    #[cycle(trees)]
+    fn boxed_trees(
+        &self,
+        alloc: Global,
+        a: TermId,
+        b: TermId,
+    ) -> Result<(Boxed<Term>, Boxed<Term>), OutOfMemory>
+        requires first { a < length self.now }
+        requires second { b < length self.now }
+        ensures first { IfOk result (λ p. p.0 ≡ tree_at self.now a) }
+        ensures second { IfOk result (λ p. p.1 ≡ tree_at self.now b) }
+    {
+        let first = self.boxed_tree(alloc, a)?;
+        let second = self.boxed_tree(alloc, b)?;
+        Ok((first, second))
+    }
+
     /// The tree at a position.
+    #[cycle(trees)]
     #[tactic(auto, using(crate::proofs::Trees::cell_trees))]
     pub fn tree(&self, id: TermId) -> Result<Term, OutOfMemory>
         requires { id < length self.now }
@@ -170,29 +197,25 @@ impl TermTable {
             TermCell::Own(k) => Ok(Term::Own(*k)),
             TermCell::At(place) => Ok(Term::At(*place)),
             TermCell::Add(a, b) => {
-                let a = Boxed::new(alloc, self.tree(*a)?)?;
-                let b = Boxed::new(alloc, self.tree(*b)?)?;
+                let (a, b) = self.boxed_trees(alloc, *a, *b)?;
                 Ok(Term::Add(a, b))
             }
             TermCell::Sub(a, b) => {
-                let a = Boxed::new(alloc, self.tree(*a)?)?;
-                let b = Boxed::new(alloc, self.tree(*b)?)?;
+                let (a, b) = self.boxed_trees(alloc, *a, *b)?;
                 Ok(Term::Sub(a, b))
             }
             TermCell::Mul(a, b) => {
-                let a = Boxed::new(alloc, self.tree(*a)?)?;
-                let b = Boxed::new(alloc, self.tree(*b)?)?;
+                let (a, b) = self.boxed_trees(alloc, *a, *b)?;
                 Ok(Term::Mul(a, b))
             }
-            TermCell::One(op, a) => Ok(Term::One(*op, Boxed::new(alloc, self.tree(*a)?)?)),
+            TermCell::One(op, a) => Ok(Term::One(*op, self.boxed_tree(alloc, *a)?)),
             TermCell::Two(op, a, b) => {
-                let a = Boxed::new(alloc, self.tree(*a)?)?;
-                let b = Boxed::new(alloc, self.tree(*b)?)?;
+                let (a, b) = self.boxed_trees(alloc, *a, *b)?;
                 Ok(Term::Two(*op, a, b))
             }
-            TermCell::Low(k, a) => Ok(Term::Low(*k, Boxed::new(alloc, self.tree(*a)?)?)),
-            TermCell::Sext(k, n, a) => Ok(Term::Sext(*k, *n, Boxed::new(alloc, self.tree(*a)?)?)),
-            TermCell::Sgn(n, a) => Ok(Term::Sgn(*n, Boxed::new(alloc, self.tree(*a)?)?)),
+            TermCell::Low(k, a) => Ok(Term::Low(*k, self.boxed_tree(alloc, *a)?)),
+            TermCell::Sext(k, n, a) => Ok(Term::Sext(*k, *n, self.boxed_tree(alloc, *a)?)),
+            TermCell::Sgn(n, a) => Ok(Term::Sgn(*n, self.boxed_tree(alloc, *a)?)),
         }
     }
 }
