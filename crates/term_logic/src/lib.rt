@@ -20,6 +20,3 @@ pub use term_trees::{
     Boxed, Formula, Linear, Place, Term, Way, forms as forms, ground, ground_under_any_numbers,
     nodes, normal, normal_form_has_the_value, replacing_keeps_values,
 };
-
-#[cfg(test)]
-mod tests;

@@ -2,12 +2,9 @@ ghost use Rattle.std.specs.Prelude.{◌≡◌, IfOk, IsTrue};
 ghost use Rattle.wasm_values.specs.Operators.{num_operands, operands};
 ghost use Rattle.term_trees.specs.Terms.{well_formed, is_low_width, is_sext_pair, is_sgn_width};
 
-use crate::boxed::Boxed;
-use crate::evaluate::ground;
-use crate::normalize::normal;
-use crate::term::{Formula, Term};
 use std::alloc::Global;
 use std::test::Fail;
+use term_trees::{Boxed, Formula, Term, ground, normal};
 use wasm_values::{IntOp, NumOp, OutOfMemory};
 
 /// Two operands under an operator.
