@@ -3,6 +3,7 @@ pub mod Formulas
 pub mod Interned
 pub mod Layers
 pub mod FormulaLayers
+pub mod FormulaNodes
 pub mod NoLeaves
 pub mod Tables
 pub mod Trees
