@@ -1,3 +1,4 @@
+pub mod CellParts
 pub mod Extends
 pub mod Formulas
 pub mod FormulaParts

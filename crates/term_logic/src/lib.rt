@@ -1,6 +1,7 @@
 //! A table that keeps each term once, and formulas and linear forms over it.
 #![tactic(auto)]
 
+mod cell_parts;
 mod compare;
 mod formula;
 mod formula_parts;

@@ -1,3 +1,4 @@
+use crate::cell_parts::{CellParts, parts_of_cell};
 use indexmap::IndexMap;
 use std::alloc::Global;
 use std::marker::Model;
@@ -191,31 +192,19 @@ impl TermTable {
         ensures well_formed { IfOk result (λ t. IsTrue (well_formed t)) }
     {
         let alloc = *self.cells.allocator();
-        match self.cell(id) {
-            TermCell::Num(n) => Ok(Term::Num(*n)),
-            TermCell::Var(k) => Ok(Term::Var(*k)),
-            TermCell::Own(k) => Ok(Term::Own(*k)),
-            TermCell::At(place) => Ok(Term::At(*place)),
-            TermCell::Add(a, b) => {
-                let (a, b) = self.boxed_trees(alloc, *a, *b)?;
-                Ok(Term::Add(a, b))
+        match parts_of_cell(self.cell(id)) {
+            CellParts::Num(n) => Ok(Term::Num(n)),
+            CellParts::Var(k) => Ok(Term::Var(k)),
+            CellParts::Own(k) => Ok(Term::Own(k)),
+            CellParts::At(place) => Ok(Term::At(place)),
+            CellParts::One(outer, a) => {
+                let a = self.boxed_tree(alloc, a)?;
+                Ok(outer.over(a))
             }
-            TermCell::Sub(a, b) => {
-                let (a, b) = self.boxed_trees(alloc, *a, *b)?;
-                Ok(Term::Sub(a, b))
+            CellParts::Two(outer, a, b) => {
+                let (a, b) = self.boxed_trees(alloc, a, b)?;
+                Ok(outer.over(a, b))
             }
-            TermCell::Mul(a, b) => {
-                let (a, b) = self.boxed_trees(alloc, *a, *b)?;
-                Ok(Term::Mul(a, b))
-            }
-            TermCell::One(op, a) => Ok(Term::One(*op, self.boxed_tree(alloc, *a)?)),
-            TermCell::Two(op, a, b) => {
-                let (a, b) = self.boxed_trees(alloc, *a, *b)?;
-                Ok(Term::Two(*op, a, b))
-            }
-            TermCell::Low(k, a) => Ok(Term::Low(*k, self.boxed_tree(alloc, *a)?)),
-            TermCell::Sext(k, n, a) => Ok(Term::Sext(*k, *n, self.boxed_tree(alloc, *a)?)),
-            TermCell::Sgn(n, a) => Ok(Term::Sgn(*n, self.boxed_tree(alloc, *a)?)),
         }
     }
 }
