@@ -50,7 +50,7 @@ module _ (a b : ℕ) where
 
 -- ---- a formula that is denied, and two that are joined
 
-module _ (f g : Formula) where
+module _ (f : Formula) where
   pub nodes-not : formula_nodes (tree.Not f) ≡ 1 + formula_nodes f
   nodes-not = ap formula_nodes (sym (tree.rolls-Not f)) ∙ fold-roll-Formula ℕ formula_nodes_here (layer.Not f)
 
@@ -60,6 +60,7 @@ module _ (f g : Formula) where
   pub replaced-not : (l : Leaves) → replaced_formula l (tree.Not f) ≡ tree.Not (replaced_formula l f)
   replaced-not l = ap (replaced_formula l) (sym (tree.rolls-Not f)) ∙ fold-roll-Formula Formula (replaced_formula_here l) (layer.Not f)
 
+module _ (f g : Formula) where
   pub nodes-joined : (c : Connective) → formula_nodes (joined c f g) ≡ 1 + formula_nodes f + formula_nodes g
   nodes-joined Both = ap formula_nodes (sym (tree.rolls-And f g)) ∙ fold-roll-Formula ℕ formula_nodes_here (layer.And f g)
   nodes-joined Either = ap formula_nodes (sym (tree.rolls-Or f g)) ∙ fold-roll-Formula ℕ formula_nodes_here (layer.Or f g)
@@ -85,6 +86,3 @@ module _ (f g : IdFormula) where
   bound-joined Both = ap formula_bound (sym (form.rolls-And f g)) ∙ fold-roll-IdFormula ℕ bound_here (id_layer.And f g)
   bound-joined Either = ap formula_bound (sym (form.rolls-Or f g)) ∙ fold-roll-IdFormula ℕ bound_here (id_layer.Or f g)
   bound-joined Follows = ap formula_bound (sym (form.rolls-Imp f g)) ∙ fold-roll-IdFormula ℕ bound_here (id_layer.Imp f g)
-
-  pub bound-not : formula_bound (form.Not f) ≡ formula_bound f
-  bound-not = ap formula_bound (sym (form.rolls-Not f)) ∙ fold-roll-IdFormula ℕ bound_here (id_layer.Not f)
