@@ -1,6 +1,10 @@
 pub mod Cells
 pub mod Formulas
 pub mod Interned
+pub mod Layers
+pub mod FormulaLayers
+pub mod FormulaNodes
+pub mod NoLeaves
 pub mod Tables
 pub mod Trees
 pub mod Comparisons

@@ -1,6 +1,6 @@
-ghost use Rattle.std.specs.Prelude.{◌≡◌, ◌<◌, length, ℕ, slice_get, IfSome};
-ghost use Rattle.std.specs.List.{All};
-ghost use Rattle.term_logic.specs.Leaves.{place_id};
+ghost use Rattle.std.specs.Prelude.{◌≡◌, List, ℕ, slice_get};
+ghost use Rattle.term_trees.specs.declared.term.Term.{Term};
+ghost use Rattle.term_logic.specs.Leaves.{leaves_of, no_leaves, place_id, LeavesWithin};
 
 use crate::table::TermId;
 use term_trees::Place;
@@ -18,6 +18,25 @@ pub struct LeafIds<'a> {
     pub pages: Option<TermId>,
     pub args: &'a [TermId],
     pub result: Option<TermId>,
+}
+
+impl<'a> LeafIds<'a> {
+    /// No leaf has a term in its place.
+    pub fn none() -> LeafIds<'a>
+        ensures trees { (ts : List Term) → leaves_of ts result ≡ no_leaves }
+        ensures within { (n : ℕ) → LeavesWithin n result }
+    {
+        LeafIds {
+            variables: &[],
+            own: &[],
+            locals: &[],
+            stack: &[],
+            globals: &[],
+            pages: None,
+            args: &[],
+            result: None,
+        }
+    }
 }
 
 impl LeafIds<'_> {

@@ -6,8 +6,10 @@ ghost use Rattle.term_trees.specs.Leaves.{replaced, replaced_formula};
 ghost use Rattle.term_logic.specs.Leaves.{LeavesWithin, leaves_of};
 
 use crate::formula::IdFormula;
+use crate::formula_parts::{FormulaParts, parts_of_formula};
 use crate::leaves::LeafIds;
-use crate::table::{TermCell, TermId, TermTable};
+use crate::parts::{Parts, cell_over, parts_of_term};
+use crate::table::{TermId, TermTable};
 use term_trees::{Boxed, Formula, Term};
 use wasm_values::OutOfMemory;
 
@@ -63,7 +65,6 @@ impl TermTable {
 
     /// The position of a tree, once its leaves are replaced. Terms that the table lacks are added.
     #[cycle(replace)]
-    #[tactic(auto, using(crate::proofs::Trees::built))]
     pub fn put_replaced(&mut self, t: &Term, leaves: &LeafIds<'_>) -> Result<TermId, OutOfMemory>
         requires leaves { LeavesWithin (length self.old) leaves.now }
         requires small { node_count (replaced (leaves_of self.old leaves.now) t.now) ≤ 4096 }
@@ -72,51 +73,19 @@ impl TermTable {
         ensures tree { IfOk result (λ id. tree_at self.new id ≡ replaced (leaves_of self.old leaves.now) t.now) }
         ensures kept { Extends self.old self.new }
     {
-        match t {
-            Term::Num(n) => self.intern(TermCell::Num(*n)),
-            Term::Var(k) => match leaves.variable(*k) {
-                Some(id) => Ok(id),
-                None => self.intern(TermCell::Var(*k)),
-            },
-            Term::Own(k) => match leaves.own(*k) {
-                Some(id) => Ok(id),
-                None => self.intern(TermCell::Own(*k)),
-            },
-            Term::At(place) => match leaves.place(*place) {
-                Some(id) => Ok(id),
-                None => self.intern(TermCell::At(*place)),
-            },
-            Term::Add(a, b) => {
-                let (a, b) = self.put_two_replaced(a.get(), b.get(), leaves)?;
-                self.intern(TermCell::Add(a, b))
+        match leaves.given(t) {
+            Some(id) => return Ok(id),
+            None => {}
+        }
+        match parts_of_term(t) {
+            Parts::Leaf(cell) => self.intern(cell),
+            Parts::One(a) => {
+                let a = self.put_replaced(a, leaves)?;
+                self.intern(cell_over(t, a, a))
             }
-            Term::Sub(a, b) => {
-                let (a, b) = self.put_two_replaced(a.get(), b.get(), leaves)?;
-                self.intern(TermCell::Sub(a, b))
-            }
-            Term::Mul(a, b) => {
-                let (a, b) = self.put_two_replaced(a.get(), b.get(), leaves)?;
-                self.intern(TermCell::Mul(a, b))
-            }
-            Term::One(op, a) => {
-                let a = self.put_replaced(a.get(), leaves)?;
-                self.intern(TermCell::One(*op, a))
-            }
-            Term::Two(op, a, b) => {
-                let (a, b) = self.put_two_replaced(a.get(), b.get(), leaves)?;
-                self.intern(TermCell::Two(*op, a, b))
-            }
-            Term::Low(k, a) => {
-                let a = self.put_replaced(a.get(), leaves)?;
-                self.intern(TermCell::Low(*k, a))
-            }
-            Term::Sext(k, n, a) => {
-                let a = self.put_replaced(a.get(), leaves)?;
-                self.intern(TermCell::Sext(*k, *n, a))
-            }
-            Term::Sgn(n, a) => {
-                let a = self.put_replaced(a.get(), leaves)?;
-                self.intern(TermCell::Sgn(*n, a))
+            Parts::Two(a, b) => {
+                let (a, b) = self.put_two_replaced(a, b, leaves)?;
+                self.intern(cell_over(t, a, b))
             }
         }
     }
@@ -148,6 +117,23 @@ impl TermTable {
     }
 
     #[cycle(replace_formulas)]
+    fn put_boxed_formula(
+        &mut self,
+        f: &Formula,
+        leaves: &LeafIds<'_>,
+    ) -> Result<Boxed<IdFormula>, OutOfMemory>
+        requires leaves { LeavesWithin (length self.old) leaves.now }
+        requires small { formula_nodes (replaced_formula (leaves_of self.old leaves.now) f.now) ≤ 4096 }
+        requires well_formed { IsTrue (well_formed_formula f.now) }
+        ensures within { IfOk result (λ g. formula_bound g ≤ length self.new) }
+        ensures tree { IfOk result (λ g. formula_of self.new g ≡ replaced_formula (leaves_of self.old leaves.now) f.now) }
+        ensures kept { Extends self.old self.new }
+    {
+        let f = self.put_replaced_formula(f, leaves)?;
+        Boxed::new(self.allocator(), f)
+    }
+
+    #[cycle(replace_formulas)]
     fn put_two_replaced_formulas(
         &mut self,
         f: &Formula,
@@ -162,10 +148,9 @@ impl TermTable {
         ensures second { IfOk result (λ p. formula_of self.new p.1 ≡ replaced_formula (leaves_of self.old leaves.now) g.now) }
         ensures kept { Extends self.old self.new }
     {
-        let f = self.put_replaced_formula(f, leaves)?;
-        let g = self.put_replaced_formula(g, leaves)?;
-        let f = Boxed::new(self.allocator(), f)?;
-        Ok((f, Boxed::new(self.allocator(), g)?))
+        let f = self.put_boxed_formula(f, leaves)?;
+        let g = self.put_boxed_formula(g, leaves)?;
+        Ok((f, g))
     }
 
     /// The formula over the table, once the tree's leaves are replaced. Terms that the table lacks are added.
@@ -182,36 +167,20 @@ impl TermTable {
         ensures tree { IfOk result (λ g. formula_of self.new g ≡ replaced_formula (leaves_of self.old leaves.now) f.now) }
         ensures kept { Extends self.old self.new }
     {
-        match f {
-            Formula::True => Ok(IdFormula::True),
-            Formula::False => Ok(IdFormula::False),
-            Formula::Eq(a, b) => {
+        match parts_of_formula(f) {
+            FormulaParts::True => Ok(IdFormula::True),
+            FormulaParts::False => Ok(IdFormula::False),
+            FormulaParts::Compared(relation, a, b) => {
                 let (a, b) = self.put_two_replaced(a, b, leaves)?;
-                Ok(IdFormula::Eq(a, b))
+                Ok(relation.over(a, b))
             }
-            Formula::Le(a, b) => {
-                let (a, b) = self.put_two_replaced(a, b, leaves)?;
-                Ok(IdFormula::Le(a, b))
+            FormulaParts::Not(f) => {
+                let f = self.put_boxed_formula(f, leaves)?;
+                Ok(IdFormula::Not(f))
             }
-            Formula::Lt(a, b) => {
-                let (a, b) = self.put_two_replaced(a, b, leaves)?;
-                Ok(IdFormula::Lt(a, b))
-            }
-            Formula::Not(f) => {
-                let f = self.put_replaced_formula(f.get(), leaves)?;
-                Ok(IdFormula::Not(Boxed::new(self.allocator(), f)?))
-            }
-            Formula::And(f, g) => {
-                let (f, g) = self.put_two_replaced_formulas(f.get(), g.get(), leaves)?;
-                Ok(IdFormula::And(f, g))
-            }
-            Formula::Or(f, g) => {
-                let (f, g) = self.put_two_replaced_formulas(f.get(), g.get(), leaves)?;
-                Ok(IdFormula::Or(f, g))
-            }
-            Formula::Imp(f, g) => {
-                let (f, g) = self.put_two_replaced_formulas(f.get(), g.get(), leaves)?;
-                Ok(IdFormula::Imp(f, g))
+            FormulaParts::Joined(connective, f, g) => {
+                let (f, g) = self.put_two_replaced_formulas(f, g, leaves)?;
+                Ok(connective.over(f, g))
             }
         }
     }

@@ -1,3 +1,4 @@
+use crate::cell_parts::{CellParts, parts_of_cell};
 use indexmap::IndexMap;
 use std::alloc::Global;
 use std::marker::Model;
@@ -156,7 +157,34 @@ impl TermTable {
         Ok(TermId { at })
     }
 
+    #[cycle(trees)]
+    fn boxed_tree(&self, alloc: Global, id: TermId) -> Result<Boxed<Term>, OutOfMemory>
+        requires { id < length self.now }
+        ensures { IfOk result (λ b. b ≡ tree_at self.now id) }
+    {
+        let tree = self.tree(id)?;
+        Boxed::new(alloc, tree)
+    }
+
+    #[cycle(trees)]
+    fn boxed_trees(
+        &self,
+        alloc: Global,
+        a: TermId,
+        b: TermId,
+    ) -> Result<(Boxed<Term>, Boxed<Term>), OutOfMemory>
+        requires first { a < length self.now }
+        requires second { b < length self.now }
+        ensures first { IfOk result (λ p. p.0 ≡ tree_at self.now a) }
+        ensures second { IfOk result (λ p. p.1 ≡ tree_at self.now b) }
+    {
+        let first = self.boxed_tree(alloc, a)?;
+        let second = self.boxed_tree(alloc, b)?;
+        Ok((first, second))
+    }
+
     /// The tree at a position.
+    #[cycle(trees)]
     #[tactic(auto, using(crate::proofs::Trees::cell_trees))]
     pub fn tree(&self, id: TermId) -> Result<Term, OutOfMemory>
         requires { id < length self.now }
@@ -164,35 +192,19 @@ impl TermTable {
         ensures well_formed { IfOk result (λ t. IsTrue (well_formed t)) }
     {
         let alloc = *self.cells.allocator();
-        match self.cell(id) {
-            TermCell::Num(n) => Ok(Term::Num(*n)),
-            TermCell::Var(k) => Ok(Term::Var(*k)),
-            TermCell::Own(k) => Ok(Term::Own(*k)),
-            TermCell::At(place) => Ok(Term::At(*place)),
-            TermCell::Add(a, b) => {
-                let a = Boxed::new(alloc, self.tree(*a)?)?;
-                let b = Boxed::new(alloc, self.tree(*b)?)?;
-                Ok(Term::Add(a, b))
+        match parts_of_cell(self.cell(id)) {
+            CellParts::Num(n) => Ok(Term::Num(n)),
+            CellParts::Var(k) => Ok(Term::Var(k)),
+            CellParts::Own(k) => Ok(Term::Own(k)),
+            CellParts::At(place) => Ok(Term::At(place)),
+            CellParts::One(outer, a) => {
+                let a = self.boxed_tree(alloc, a)?;
+                Ok(outer.over(a))
             }
-            TermCell::Sub(a, b) => {
-                let a = Boxed::new(alloc, self.tree(*a)?)?;
-                let b = Boxed::new(alloc, self.tree(*b)?)?;
-                Ok(Term::Sub(a, b))
+            CellParts::Two(outer, a, b) => {
+                let (a, b) = self.boxed_trees(alloc, a, b)?;
+                Ok(outer.over(a, b))
             }
-            TermCell::Mul(a, b) => {
-                let a = Boxed::new(alloc, self.tree(*a)?)?;
-                let b = Boxed::new(alloc, self.tree(*b)?)?;
-                Ok(Term::Mul(a, b))
-            }
-            TermCell::One(op, a) => Ok(Term::One(*op, Boxed::new(alloc, self.tree(*a)?)?)),
-            TermCell::Two(op, a, b) => {
-                let a = Boxed::new(alloc, self.tree(*a)?)?;
-                let b = Boxed::new(alloc, self.tree(*b)?)?;
-                Ok(Term::Two(*op, a, b))
-            }
-            TermCell::Low(k, a) => Ok(Term::Low(*k, Boxed::new(alloc, self.tree(*a)?)?)),
-            TermCell::Sext(k, n, a) => Ok(Term::Sext(*k, *n, Boxed::new(alloc, self.tree(*a)?)?)),
-            TermCell::Sgn(n, a) => Ok(Term::Sgn(*n, Boxed::new(alloc, self.tree(*a)?)?)),
         }
     }
 }

@@ -23,6 +23,3 @@ pub use laws::{ground_under_any_numbers, normal_form_has_the_value, replacing_ke
 pub use linear::{Linear, Way};
 pub use normalize::normal;
 pub use term::{Formula, Place, Term};
-
-#[cfg(test)]
-mod tests;

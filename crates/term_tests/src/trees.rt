@@ -2,12 +2,10 @@ ghost use Rattle.std.specs.Prelude.{◌≡◌, IfOk, IsTrue};
 ghost use Rattle.wasm_values.specs.Operators.{num_operands, operands};
 ghost use Rattle.term_trees.specs.Terms.{well_formed, is_low_width, is_sext_pair, is_sgn_width};
 
-use crate::boxed::Boxed;
-use crate::evaluate::ground;
-use crate::normalize::normal;
-use crate::term::{Formula, Term};
 use std::alloc::Global;
 use std::test::Fail;
+use term_trees::forms::Normal;
+use term_trees::{Boxed, Formula, Term, ground, normal};
 use wasm_values::{IntOp, NumOp, OutOfMemory};
 
 /// Two operands under an operator.
@@ -33,18 +31,29 @@ fn three_times(alloc: Global) -> Result<Term, OutOfMemory>
     Ok(Term::Add(second, product))
 }
 
+/// Whether a form is three times the variable 0, less 2.
+fn is_thrice_less_two(form: &Normal) -> bool {
+    match form.parts.as_slice() {
+        [part] => form.constant == -2 && part.0.var_of() == Some(0) && part.1 == 3,
+        _ => false,
+    }
+}
+
+/// Whether a term that is three times the variable 0, less 2, has that form.
+fn is_gathered(alloc: Global, term: &Term) -> Result<bool, OutOfMemory>
+    requires { IsTrue (well_formed term.now) }
+{
+    match normal(alloc, term)? {
+        Some(form) => Ok(is_thrice_less_two(&form)),
+        None => Ok(false),
+    }
+}
+
 #[test]
 fn numbers_and_variables_are_gathered(rt: HostRuntime) -> Result<(), Fail> {
     let alloc = rt.alloc();
     let term = three_times(alloc)?;
-    let Some(form) = normal(alloc, &term)? else {
-        return Err("no normal form".into());
-    };
-    assert_eq!(rt; form.constant, -2);
-    assert_eq!(rt; form.parts.len(), 1);
-    let part = &form.parts.as_slice()[0];
-    assert_eq!(rt; part.0.var_of(), Some(0));
-    assert_eq!(rt; part.1, 3);
+    assert!(rt; is_gathered(alloc, &term)?);
     Ok(())
 }
 

@@ -1,9 +1,0 @@
-use Rattle.std.proofs.Common.{◌+◌, ◌*◌}
-use Rattle.term_trees.specs.Formulas.{formula_nodes}
-use Rattle.term_logic.proofs.table.TermTable.+put_formulas.Given as goal
-
-abbrev pub decreases-put_two_formulas : goal.decreases-put_two_formulas
-decreases-put_two_formulas l = 2 * (formula_nodes l.f.now + formula_nodes l.g.now) + 1
-
-abbrev pub decreases-put_formula : goal.decreases-put_formula
-decreases-put_formula l = 2 * formula_nodes l.f.now

@@ -1,0 +1,7 @@
+//! Tests of terms and formulas, as trees and over a table.
+#![tactic(auto)]
+
+#[cfg(test)]
+mod tables;
+#[cfg(test)]
+mod trees;
