@@ -2,7 +2,7 @@
 use Rattle.std.proofs.Common.{◌≡◌, ℕ, Bool, true, zero, suc, ◌+◌, ◌<◌, ◌≤◌, List, [], ◌∷◌, ◌++◌, length, length-append, refl, sym, ap, ◌∙◌, arith}
 use Rattle.std.proofs.lemmas.List.{get_or_append_left}
 use Rattle.std.proofs.Math.Seq.{get_or-append_seam}
-use Rattle.term_trees.specs.declared.term.Term.{Term, roll-Term, out-Term, out-roll-Term, map-Term, fold-Term, fold-roll-Term, the_lemmas}
+use Rattle.term_trees.specs.declared.term.Term.{Term, roll-Term, out-Term, out-roll-Term, map-Term, fold-Term, fold-roll-Term}
 use Rattle.term_trees.specs.declared.term.Term.TheOpen.{Term-F}
 use Rattle.term_trees.specs.declared.term.Term.TheOpen as layer
 use Rattle.term_trees.specs.declared.term.Term.TheVariants as term
@@ -200,5 +200,3 @@ module _ (ts : List Term) where
   tree_here_sgn n a = rolls-Sgn _ _
 
 pub ruleset cell_trees = (tree_here_num, tree_here_var, tree_here_own, tree_here_at, tree_here_add, tree_here_sub, tree_here_mul, tree_here_one, tree_here_two, tree_here_low, tree_here_sext, tree_here_sgn)
-
-pub ruleset built = (cell_trees, node_count_tree_here, the_lemmas)
