@@ -4,14 +4,7 @@
 
 #[cfg(test)]
 mod cases;
-mod commands;
-mod judge;
-mod laws;
-mod line;
-mod report;
 mod run;
-mod stages;
-mod status;
 #[cfg(test)]
 mod tests;
 

@@ -2,15 +2,13 @@
 
 ghost use Rattle.std.specs.Prelude.{◌≡◌, ◌⊎◌, None, IfSome, IsSomeAnd};
 ghost use Rattle.rw_edge.specs.Count.{Faulted};
-ghost use Rattle.verify_command.specs.Reports.{Report, IsReport, command_of, nothing_read, words_refused};
-ghost use Rattle.verify_command.specs.Outcomes.{IsSpoken, IsQuiet, Comes, Wrote, Told, texts};
-ghost use Rattle.verify_command.specs.Accepted.{IsAccepted};
+ghost use Rattle.verify_report.specs.Reports.{Report, IsReport, command_of, nothing_read, words_refused};
+ghost use Rattle.verify_report.specs.Outcomes.{IsSpoken, IsQuiet, Comes, Wrote, Told, texts};
+ghost use Rattle.verify_report.specs.Accepted.{IsAccepted};
 
-use crate::commands::reported;
-use crate::report::Stop;
-use crate::status::Status;
 use rw_edge::{Failed, Shelf, Sink, emit};
 use std::alloc::Global;
+use verify_report::{Status, Stop, reported};
 
 // Writes a text whole, and comes to the status, or to a write fault.
 fn written<K: Sink>(text: &[u8], status: Status, sink: &mut K) -> Status

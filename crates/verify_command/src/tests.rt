@@ -2,10 +2,10 @@ ghost use Rattle.std.specs.Prelude.{◌<◌};
 
 use crate::cases::{BODIES, LISTINGS, NOTES, PREFIXES, SECTIONS};
 use crate::run::run;
-use crate::status::Status;
 use rw_edge::{MemShelf, MemSink};
 use std::alloc::Global;
 use std::test::Fail;
+use verify_report::Status;
 use wasm_values::{Bytes, Text};
 
 /// One private global, which its one function sets to 7.

@@ -1,7 +1,7 @@
 use Rattle.std.proofs.Common.{Err, ap}
 use Rattle.rw_edge.specs.Count.{Faulted}
-use Rattle.verify_command.specs.Outcomes.{texts}
-use Rattle.verify_command.proofs.OutcomeLaws.{told_refused}
+use Rattle.verify_report.specs.Outcomes.{texts}
+use Rattle.verify_report.proofs.OutcomeLaws.{told_refused}
 use Rattle.verify_command.proofs.run.act.Goals as goal
 
 pub returns-in-Err-Words-clause-told : goal.returns-in-Err-Words-clause-told

@@ -1,6 +1,6 @@
 use Rattle.rw_edge.specs.Count.{Faulted}
-use Rattle.verify_command.specs.Outcomes.{texts}
-use Rattle.verify_command.proofs.OutcomeLaws.{comes, wrote, good, complete}
+use Rattle.verify_report.specs.Outcomes.{texts}
+use Rattle.verify_report.proofs.OutcomeLaws.{comes, wrote, good, complete}
 use Rattle.verify_command.proofs.run.run.Goals as goal
 
 pub returns-clause-comes : goal.returns-clause-comes

@@ -1,5 +1,0 @@
-use Rattle.verify_command.proofs.OnceLaws.{one_report}
-use Rattle.verify_command.proofs.laws.one_report.Goals as goal
-
-pub returns : goal.returns
-returns c = one_report

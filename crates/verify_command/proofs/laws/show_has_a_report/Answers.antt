@@ -1,5 +1,0 @@
-use Rattle.verify_command.proofs.ExistLaws.{show_some}
-use Rattle.verify_command.proofs.laws.show_has_a_report.Goals as goal
-
-pub returns : goal.returns
-returns c = show_some

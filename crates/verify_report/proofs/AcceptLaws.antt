@@ -1,0 +1,187 @@
+-- A report is good exactly where the words and files are accepted.
+use Rattle.std.proofs.Common.{◌≡◌, ℕ, ◌≤◌, List, length, Option, Some, None, refl, sym, ap, subst, ◌∙◌, inl, inr}
+use Rattle.std.specs.Prelude.{IsSomeAnd}
+use Rattle.wasm_syntax.specs.declared.module.Module.{Module}
+use Rattle.wasm_syntax.specs.declared.module.Marks.{Marks}
+use Rattle.binary_grammar.specs.declared.fault.DecodeFault.{DecodeFault}
+use Rattle.binary_grammar.specs.declared.fault.DecodeFault.TheVariants as decode
+use Rattle.binary_grammar.specs.Bounds.{the_bounds}
+use Rattle.binary_grammar.specs.ModuleGrammar.{Spells, InLimits}
+use Rattle.wasm_typing.specs.Valid.{Valid}
+use Rattle.outline_check.specs.declared.notes.Notes.{Notes}
+use Rattle.outline_check.specs.First.{IsFirst}
+use Rattle.outline_check.specs.Refusals.{Outline, Verified, Failed, Limit}
+use Rattle.outline_check.specs.Outlines.{outline}
+use Rattle.first_reader.specs.ReadingNotes.{first_notes}
+use Rattle.first_reader.specs.FirstNotes.{IsFirstText}
+use Rattle.first_reader.proofs.NoteLaws as notes_laws
+use Rattle.rw_edge.specs.Files.{contents_of}
+use Rattle.verify_report.specs.declared.status.Status.TheVariants as status
+use Rattle.verify_report.specs.Reports.{Report, Files, Command, Check, Show, Verify, module_limit, module_too_long, notes_limit, notes_too_long, module_valid, module_listed, outlined, noted, IsFaultReport, OfFile, OfBytes, OfModule, OfFirst, OfChecked, OfShown, OfJudged, OfNotes, OfCommand, command_of, IsReport}
+use Rattle.verify_report.proofs.ReportLaws as stages
+use Rattle.verify_report.specs.Accepted.{IsModule, IsValidModule, Accepts, Accepted, IsAccepted}
+
+-- reports that are not good
+abbrev IsGood : Report → Type 0
+IsGood r = r.status ≡ status.Good
+
+not_good : (r s : Report) → r ≡ s → (s.status ≡ status.Good → ⊥) → IsGood r → ⊥
+not_good r s e bad good = bad (sym (ap (λ (q : Report). q.status) e) ∙ good)
+
+-- ---- a file
+
+good_file : (limit : ℕ) (long : Report) (Next : List ℕ → Report → Type 0) (o : Option (List ℕ)) (r : Report) → (long.status ≡ status.Good → ⊥) → OfFile limit long Next o r → IsGood r →
+    IsSomeAnd o (λ c. (length c ≤ limit) × Next c r)
+unfolding OfFile
+good_file limit long Next None r bad h good = not_good r _ h (λ e. absurd cc) good
+good_file limit long Next (Some c) r bad (inl h) good = absurd (not_good r long h.1 bad good)
+good_file limit long Next (Some c) r bad (inr h) good = h
+
+file_good : (limit : ℕ) (long : Report) (Next : List ℕ → Report → Type 0) (o : Option (List ℕ)) (c : List ℕ) (r : Report) → o ≡ Some c → length c ≤ limit → Next c r → OfFile limit long Next o r
+unfolding OfFile
+file_good limit long Next o c r e le next = let F : Option (List ℕ) → Type 0 = λ p. OfFile limit long Next p r in subst F (sym e) (inr (le, next))
+
+-- ---- bytes and modules
+
+not_fault : (fault : DecodeFault) (r : Report) → IsFaultReport fault r → IsGood r → ⊥
+not_fault (decode.Malformed at w) r h good = not_good r _ h (λ e. absurd cc) good
+not_fault (decode.Limit at w) r h good = not_good r _ h (λ e. absurd cc) good
+not_fault decode.OutOfMemory r h good = h
+
+good_bytes : (Next : Module → Marks → Report → Type 0) (bytes : List ℕ) (r : Report) → OfBytes Next bytes r → IsGood r → (m : Module) × (k : Marks) × Spells bytes m k × InLimits the_bounds m × Next m k r
+unfolding OfBytes
+good_bytes Next bytes r (inl h) good = h
+good_bytes Next bytes r (inr h) good = absurd (not_fault h.0 r h.2 good)
+
+good_module : (Next : Module → Marks → Report → Type 0) (m : Module) (k : Marks) (r : Report) → OfModule Next m k r → IsGood r → Valid m × Next m k r
+unfolding OfModule
+good_module Next m k r (inl h) good = h
+good_module Next m k r (inr h) good = absurd (not_good r _ h.3 (λ e. absurd cc) good)
+
+-- ---- notes and the outline
+
+good_outline : (o : Outline) → IsGood (outlined o) → o ≡ Verified
+good_outline Verified e = refl
+good_outline (Failed at function reason) e = absurd cc
+good_outline (Limit at word) e = absurd cc
+
+-- what a good verdict on a valid module and a text rests on
+record IsJudged (text : List ℕ) (m : Module) (k : Marks) : Type 0 where
+  notes : Notes
+  first : IsFirst m
+  said : IsFirstText text notes
+  verified : outline m k notes ≡ Verified
+
+good_notes : (text : List ℕ) (m : Module) (k : Marks) (o : Option Notes) → first_notes text ≡ o → IsFirst m → IsGood (noted m k o) → IsJudged text m k
+good_notes text m k None e first good = absurd cc
+good_notes text m k (Some a) e first good = record { notes = a; first = first; said = notes_laws.found text a e; verified = good_outline (outline m k a) good }
+
+good_first : (text : List ℕ) (m : Module) (k : Marks) (r : Report) → OfFirst text m k r → IsGood r → IsJudged text m k
+unfolding OfFirst
+good_first text m k r (inl h) good = good_notes text m k (first_notes text) refl h.0 (subst IsGood h.1 good)
+good_first text m k r (inr h) good = absurd (not_good r _ h.1 (λ e. absurd cc) good)
+
+first_good : (text : List ℕ) (m : Module) (k : Marks) → IsJudged text m k → OfFirst text m k (outlined Verified)
+unfolding OfFirst
+first_good text m k h =
+    let read : first_notes text ≡ Some h.notes = notes_laws.found_again text h.notes h.said in
+    inl (h.first, sym (ap (noted m k) read ∙ ap outlined h.verified))
+
+-- ---- commands
+
+there_is : {P : List ℕ → Type 0} (o : Option (List ℕ)) → IsSomeAnd o P → (c : List ℕ) × (o ≡ Some c) × P c
+there_is None h = absurd h
+there_is (Some c) h = (c, refl, h)
+
+at_some : {P Q : List ℕ → Type 0} (o : Option (List ℕ)) → ((c : List ℕ) → P c → Q c) → IsSomeAnd o P → IsSomeAnd o Q
+at_some None f h = h
+at_some (Some c) f h = f c h
+
+good_checked : (bytes : List ℕ) (r : Report) → length bytes ≤ module_limit → OfChecked bytes r → IsGood r → IsValidModule bytes
+good_checked bytes r le h good =
+    let Next : Module → Marks → Report → Type 0 = λ m k r. r ≡ module_valid in
+    let b = good_bytes (OfModule Next) bytes r h good in
+    let v = good_module Next b.0 b.1 r b.4 good in
+    record { «module» = b.0; marks = b.1; few_bytes = le; spelled = b.2; within = b.3; valid = v.0 }
+
+checked_good : (bytes : List ℕ) → IsValidModule bytes → OfChecked bytes module_valid
+checked_good bytes v =
+    let Next : Module → Marks → Report → Type 0 = λ m k r. r ≡ module_valid in
+    stages.spelled (OfModule Next) bytes v.module v.marks module_valid v.spelled v.within (stages.valid Next v.module v.marks module_valid v.valid refl)
+
+good_shown : (bytes : List ℕ) (r : Report) → length bytes ≤ module_limit → OfShown bytes r → IsGood r → IsModule bytes
+good_shown bytes r le h good =
+    let b = good_bytes (λ m k r. r ≡ module_listed m k) bytes r h good in
+    record { «module» = b.0; marks = b.1; few_bytes = le; spelled = b.2; within = b.3 }
+
+shown_good : (bytes : List ℕ) → (v : IsModule bytes) → OfShown bytes (module_listed v.module v.marks)
+shown_good bytes v = stages.spelled (λ m k r. r ≡ module_listed m k) bytes v.module v.marks (module_listed v.module v.marks) v.spelled v.within refl
+
+good_judged : (bytes text : List ℕ) (r : Report) → length bytes ≤ module_limit → length text ≤ notes_limit → OfJudged bytes text r → IsGood r → Accepts bytes text
+good_judged bytes text r few short h good =
+    let b = good_bytes (OfModule (OfFirst text)) bytes r h good in
+    let v = good_module (OfFirst text) b.0 b.1 r b.4 good in
+    let j = good_first text b.0 b.1 r v.1 good in
+    record {
+      «module» = b.0;
+      marks = b.1;
+      notes = j.notes;
+      few_bytes = few;
+      short = short;
+      spelled = b.2;
+      within = b.3;
+      valid = v.0;
+      first = j.first;
+      noted = j.said;
+      verified = j.verified;
+    }
+
+judged_good : (bytes text : List ℕ) → Accepts bytes text → OfJudged bytes text (outlined Verified)
+judged_good bytes text a =
+    let j : IsJudged text a.module a.marks = record { notes = a.notes; first = a.first; said = a.noted; verified = a.verified } in
+    stages.spelled (OfModule (OfFirst text)) bytes a.module a.marks (outlined Verified) a.spelled a.within
+    (stages.valid (OfFirst text) a.module a.marks (outlined Verified) a.valid (first_good text a.module a.marks j))
+
+good_files : (bytes : List ℕ) (o : Option (List ℕ)) (r : Report) → length bytes ≤ module_limit → OfNotes bytes o r → IsGood r → IsSomeAnd o (Accepts bytes)
+good_files bytes o r few h good =
+    at_some {P = λ text. (length text ≤ notes_limit) × OfJudged bytes text r} {Q = Accepts bytes} o (λ text x. good_judged bytes text r few x.0 x.1 good)
+    (good_file notes_limit notes_too_long (OfJudged bytes) o r (λ e. absurd cc) h good)
+
+good_command : (files : Files) (c : Option Command) (r : Report) → OfCommand files c r → IsGood r → Accepted files c
+good_command files None r h good = not_good r _ h (λ e. absurd cc) good
+good_command files (Some (Check m)) r h good =
+    at_some {P = λ c. (length c ≤ module_limit) × OfChecked c r} {Q = IsValidModule} (contents_of files m) (λ c x. good_checked c r x.0 x.1 good)
+    (good_file module_limit module_too_long OfChecked (contents_of files m) r (λ e. absurd cc) h good)
+good_command files (Some (Show m)) r h good =
+    at_some {P = λ c. (length c ≤ module_limit) × OfShown c r} {Q = IsModule} (contents_of files m) (λ c x. good_shown c r x.0 x.1 good)
+    (good_file module_limit module_too_long OfShown (contents_of files m) r (λ e. absurd cc) h good)
+good_command files (Some (Verify m n)) r h good =
+    let Next : List ℕ → Report → Type 0 = λ c. OfNotes c (contents_of files n) in
+    at_some {P = λ c. (length c ≤ module_limit) × Next c r} {Q = λ c. IsSomeAnd (contents_of files n) (Accepts c)} (contents_of files m) (λ c x. good_files c (contents_of files n) r x.0 x.1 good)
+    (good_file module_limit module_too_long Next (contents_of files m) r (λ e. absurd cc) h good)
+
+command_good : (files : Files) (c : Option Command) → Accepted files c → (r : Report) × OfCommand files c r × IsGood r
+command_good files None h = absurd h
+command_good files (Some (Check m)) h =
+    let there = there_is {P = IsValidModule} (contents_of files m) h in
+    let v : IsValidModule there.0 = there.2 in
+    (module_valid, file_good module_limit module_too_long OfChecked (contents_of files m) there.0 module_valid there.1 v.few_bytes (checked_good there.0 v), refl)
+command_good files (Some (Show m)) h =
+    let there = there_is {P = IsModule} (contents_of files m) h in
+    let v : IsModule there.0 = there.2 in
+    let r : Report = module_listed v.module v.marks in
+    (r, file_good module_limit module_too_long OfShown (contents_of files m) there.0 r there.1 v.few_bytes (shown_good there.0 v), refl)
+command_good files (Some (Verify m n)) h =
+    let bytes = there_is {P = λ c. IsSomeAnd (contents_of files n) (Accepts c)} (contents_of files m) h in
+    let text = there_is {P = Accepts bytes.0} (contents_of files n) bytes.2 in
+    let a : Accepts bytes.0 text.0 = text.2 in
+    let r : Report = outlined Verified in
+    let Next : List ℕ → Report → Type 0 = λ c. OfNotes c (contents_of files n) in
+    let notes : OfNotes bytes.0 (contents_of files n) r = file_good notes_limit notes_too_long (OfJudged bytes.0) (contents_of files n) text.0 r text.1 a.short (judged_good bytes.0 text.0 a) in
+    (r, file_good module_limit module_too_long Next (contents_of files m) bytes.0 r bytes.1 a.few_bytes notes, refl)
+
+pub reported_accepted : (words : List (List ℕ)) (files : Files) (r : Report) → IsReport words files r → r.status ≡ status.Good → IsAccepted words files
+reported_accepted words files = good_command files (command_of words)
+
+pub accepted_reported : (words : List (List ℕ)) (files : Files) → IsAccepted words files → (r : Report) × IsReport words files r × (r.status ≡ status.Good)
+accepted_reported words files = command_good files (command_of words)

@@ -1,0 +1,123 @@
+-- Words have a report over any files.
+use Rattle.std.proofs.Common.{◌≡◌, ℕ, Bool, true, false, if◌then◌else◌, List, [], ◌∷◌, length, Option, Some, None, IfSome, arith, ◌⊎◌, inl, inr, refl, sym, ◌∙◌}
+use Rattle.std.specs.List.{AllByRecursion}
+use Rattle.std.specs.Str.{bytes_eq}
+use Rattle.std.proofs.lemmas.Bool.{cases_order, false≢true}
+use Rattle.std.proofs.lemmas.List.Elements.{recursion_from_All}
+use Rattle.wasm_syntax.specs.declared.module.Module.{Module}
+use Rattle.wasm_syntax.specs.declared.module.Marks.{Marks}
+use Rattle.binary_grammar.specs.declared.fault.DecodeFault.{DecodeFault}
+use Rattle.binary_grammar.specs.declared.fault.DecodeFault.TheVariants as decode
+use Rattle.binary_grammar.specs.Bounds.{the_bounds}
+use Rattle.binary_grammar.specs.ModuleGrammar.{Spells}
+use Rattle.binary_grammar.specs.Plans.{Fault}
+use Rattle.binary_grammar.proofs.FaultLaws.{some_answer, of_bytes}
+use Rattle.binary_grammar.proofs.ModuleLaws.{module_takes}
+use Rattle.binary_grammar.proofs.PlanWhole.{reads_module}
+use Rattle.wasm_typing.specs.declared.fault.ValidWord.{ValidWord}
+use Rattle.wasm_typing.specs.Valid.{BytesInRange, Valid}
+use Rattle.wasm_typing.specs.Faults.{InvalidAt}
+use Rattle.validity_laws.proofs.Modules.{valid_or_fault}
+use Rattle.validity_laws.proofs.Spelled.{spelled_in_range}
+use Rattle.first_reader.specs.FirstTests.{is_first}
+use Rattle.first_reader.specs.ReadingNotes.{first_notes}
+use Rattle.first_reader.proofs.FirstLaws.{tests_are_exact}
+use Rattle.rw_edge.specs.Files.{contents_of}
+use Rattle.verify_report.specs.Lines.{limit_line, malformed_line}
+use Rattle.verify_report.specs.declared.status.Status.TheVariants as status
+use Rattle.verify_report.specs.Reports.{Report, ReportsOf, Files, HoldBytes, Command, Check, Show, Verify, command_of, IsFaultReport, OfFile, OfBytes, OfModule, OfFirst, OfChecked, OfShown, OfJudged, OfNotes, OfShow, OfCommand, IsReport, nothing_read, words_refused, module_limit, module_too_long, notes_limit, notes_too_long, module_valid, module_listed, invalid_report, unbuilt_module, noted}
+use Rattle.validity_laws.proofs.MarkLaws.{spelled_marked}
+
+-- ---- files
+
+file_some : (limit : ℕ) (long : Report) (Next : ReportsOf (List ℕ)) (P : List ℕ → Type 0) → ((c : List ℕ) → P c → (r : Report) × Next c r) → (o : Option (List ℕ)) → IfSome o P →
+    (r : Report) × OfFile limit long Next o r
+unfolding OfFile
+file_some limit long Next P next None p = (nothing_read, refl)
+file_some limit long Next P next (Some c) p =
+    elim (cases_order limit (length c)) [
+      | inl e ↦ ((next c p).0, inr (omega (arith, e), (next c p).1))
+      | inr more ↦
+          elim more [
+            | inl less ↦ (long, inl (less, refl))
+            | inr less ↦ ((next c p).0, inr (omega (arith, less), (next c p).1))
+          ]
+    ]
+
+anything : (o : Option (List ℕ)) → IfSome o (λ c. Unit {0})
+anything None = tt
+anything (Some c) = tt
+
+-- a file that is found holds bytes
+contents_are_bytes : (files : Files) → AllByRecursion (λ (file : List ℕ × List ℕ). BytesInRange file.1) files → (name : List ℕ) → IfSome (contents_of files name) BytesInRange
+contents_are_bytes [] h name = tt
+contents_are_bytes (file ∷ files) h name = by_name (bytes_eq file.0 name) (contents_are_bytes files h.1 name)
+  where
+    by_name : (b : Bool) → IfSome (contents_of files name) BytesInRange → IfSome (if b then Some file.1 else contents_of files name) BytesInRange
+    by_name true rest = h.0
+    by_name false rest = rest
+
+-- ---- bytes
+
+fault_some : (bytes : List ℕ) (f : DecodeFault) → Fault the_bounds bytes f → (r : Report) × IsFaultReport f r
+fault_some bytes (decode.Malformed at w) h = (record { text = malformed_line w at; status = status.Negative }, refl)
+fault_some bytes (decode.Limit at w) h = (record { text = limit_line w at; status = status.Limit }, refl)
+fault_some bytes decode.OutOfMemory h = absurd (of_bytes the_bounds bytes h)
+
+bytes_some : (Next : Module → Marks → Report → Type 0) (bytes : List ℕ) → ((m : Module) (k : Marks) → Spells bytes m k → (r : Report) × Next m k r) → (r : Report) × OfBytes Next bytes r
+unfolding OfBytes
+bytes_some Next bytes next =
+    elim (some_answer the_bounds bytes) [
+      | inl h ↦
+          let spelled = module_takes the_bounds bytes h.0 ((reads_module the_bounds bytes h.0).1 h.1) in
+          let n = next h.0.«module» h.0.marks spelled.0 in
+          (n.0, inl (h.0.«module», h.0.marks, spelled.0, spelled.1, n.1))
+      | inr h ↦ let r = fault_some bytes h.0 h.1 in (r.0, inr (h.0, h.1, r.1))
+    ]
+
+-- ---- modules
+
+module_some : (Next : Module → Marks → Report → Type 0) → ((m : Module) (k : Marks) → Valid m → (r : Report) × Next m k r) → (bytes : List ℕ) → BytesInRange bytes →
+    (m : Module) (k : Marks) → Spells bytes m k → (r : Report) × OfModule Next m k r
+unfolding OfModule
+module_some Next next bytes b m k spells = by_faults (valid_or_fault m k (spelled_marked bytes m k spells) (spelled_in_range bytes m k b spells))
+  where
+    by_faults : Valid m ⊎ ((at : ℕ) × (w : ValidWord) × InvalidAt m k at w) → (r : Report) × OfModule Next m k r
+    by_faults (inl valid) = let n = next m k valid in (n.0, inl (valid, n.1))
+    by_faults (inr f) = (invalid_report f.0 f.1, inr (f.0, f.1, f.2, refl))
+
+first_some : (text : List ℕ) (m : Module) (k : Marks) → Valid m → (r : Report) × OfFirst text m k r
+unfolding OfFirst
+first_some text m k valid = by_test (is_first m) refl
+  where
+    by_test : (b : Bool) → is_first m ≡ b → (r : Report) × OfFirst text m k r
+    by_test true e = (noted m k (first_notes text), inl ((tests_are_exact m valid).0 e, refl))
+    by_test false e = (unbuilt_module, inr (λ first. false≢true (sym e ∙ (tests_are_exact m valid).1 first), refl))
+
+-- ---- commands
+
+checked_some : (bytes : List ℕ) → BytesInRange bytes → (r : Report) × OfChecked bytes r
+checked_some bytes b = bytes_some (OfModule (λ m k r. r ≡ module_valid)) bytes (module_some (λ m k r. r ≡ module_valid) (λ m k valid. (module_valid, refl)) bytes b)
+
+shown_some : (bytes : List ℕ) → Unit {0} → (r : Report) × OfShown bytes r
+shown_some bytes t = bytes_some (λ m k r. r ≡ module_listed m k) bytes (λ m k spells. (module_listed m k, refl))
+
+judged_some : (bytes : List ℕ) → BytesInRange bytes → (text : List ℕ) → Unit {0} → (r : Report) × OfJudged bytes text r
+judged_some bytes b text t = bytes_some (OfModule (OfFirst text)) bytes (module_some (OfFirst text) (first_some text) bytes b)
+
+notes_some : (notes : Option (List ℕ)) (bytes : List ℕ) → BytesInRange bytes → (r : Report) × OfNotes bytes notes r
+notes_some notes bytes b = file_some notes_limit notes_too_long (OfJudged bytes) (λ text. Unit {0}) (judged_some bytes b) notes (anything notes)
+
+pub show_some : (files : Files) (name : List ℕ) → (r : Report) × OfShow files name r
+show_some files name = file_some module_limit module_too_long OfShown (λ bytes. Unit {0}) shown_some (contents_of files name) (anything (contents_of files name))
+
+command_some : (files : Files) → ((name : List ℕ) → IfSome (contents_of files name) BytesInRange) → (c : Option Command) → (r : Report) × OfCommand files c r
+command_some files b None = (words_refused, refl)
+command_some files b (Some (Check name)) = file_some module_limit module_too_long OfChecked BytesInRange checked_some (contents_of files name) (b name)
+command_some files b (Some (Show name)) = show_some files name
+command_some files b (Some (Verify name notes)) =
+    file_some module_limit module_too_long (λ bytes. OfNotes bytes (contents_of files notes)) BytesInRange (notes_some (contents_of files notes)) (contents_of files name) (b name)
+
+pub report_some : (words : List (List ℕ)) (files : Files) → HoldBytes files → (r : Report) × IsReport words files r
+report_some words files h =
+    command_some files (contents_are_bytes files (recursion_from_All (λ (file : List ℕ × List ℕ). BytesInRange file.1) files h)) (command_of words)

@@ -1,0 +1,183 @@
+-- What a run may report: texts and statuses, by the words and the files.
+use Rattle.std.specs.Prelude.{◌≡◌, ◌<◌, ◌≤◌, ◌⊎◌, ℕ, List, [], ◌∷◌, length, Option, Some, None, if◌then◌else◌, codes, All}
+use Rattle.std.specs.Str.{bytes_eq}
+use Rattle.wasm_syntax.specs.declared.module.Module.{Module}
+use Rattle.wasm_syntax.specs.declared.module.Marks.{Marks}
+use Rattle.binary_grammar.specs.declared.fault.DecodeFault.{DecodeFault}
+use Rattle.binary_grammar.specs.declared.fault.DecodeFault.TheVariants as decode
+use Rattle.binary_grammar.specs.Bounds.{the_bounds}
+use Rattle.binary_grammar.specs.ModuleGrammar.{Spells, InLimits}
+use Rattle.binary_grammar.specs.Plans.{Fault}
+use Rattle.wasm_typing.specs.declared.fault.ValidWord.{ValidWord}
+use Rattle.wasm_typing.specs.Valid.{Valid, BytesInRange}
+use Rattle.wasm_typing.specs.Faults.{InvalidAt}
+use Rattle.rw_edge.specs.Files.{contents_of}
+use Rattle.wasm_values.specs.declared.limit.LimitWord.TheVariants as word
+use Rattle.outline_check.specs.declared.notes.Notes.{Notes}
+use Rattle.outline_check.specs.First.{IsFirst}
+use Rattle.outline_check.specs.Refusals.{Outline}
+use Rattle.outline_check.specs.Refusals as outlines
+use Rattle.outline_check.specs.Outlines.{outline}
+use Rattle.first_reader.specs.ReadingNotes.{first_notes}
+use Rattle.module_listing.specs.Listing.{listing_text}
+use Rattle.verify_report.specs.declared.status.Status.{Status}
+use Rattle.verify_report.specs.declared.status.Status.TheVariants as status
+use Rattle.verify_report.specs.declared.report.Report as reports
+use Rattle.verify_report.specs.Lines.{line, failed_line, limit_line, malformed_line, invalid_line}
+
+-- A report is a text and a status.
+pub record Report : Type 0 where
+  pub text : List ℕ
+  pub status : Status
+
+-- What the code's report is.
+abbrev pub seen : reports.Report → Report
+seen r = record { text = r.text.items; status = r.status }
+
+-- A module file has at most 4,194,304 bytes.
+abbrev pub module_limit : ℕ
+module_limit = 4194304
+
+-- A notes file has at most 16,777,216 bytes.
+abbrev pub notes_limit : ℕ
+notes_limit = 16777216
+
+-- Words of no listed form.
+abbrev pub words_refused : Report
+words_refused = record { text = line (codes "words refused"); status = status.Words }
+
+-- A file that is missing or can't be read.
+abbrev pub nothing_read : Report
+nothing_read = record { text = []; status = status.ReadFault }
+
+-- A module file that is too long.
+abbrev pub module_too_long : Report
+module_too_long = record { text = limit_line word.Module module_limit; status = status.Limit }
+
+-- A notes file that is too long.
+abbrev pub notes_too_long : Report
+notes_too_long = record { text = limit_line word.Notes notes_limit; status = status.Limit }
+
+-- A module that is valid.
+abbrev pub module_valid : Report
+module_valid = record { text = line (codes "valid"); status = status.Good }
+
+-- The listing of a module.
+abbrev pub module_listed : Module → Marks → Report
+module_listed m k = record { text = listing_text m k; status = status.Good }
+
+-- A valid module that is not of the form First.
+abbrev pub unbuilt_module : Report
+unbuilt_module = record { text = line (codes "unbuilt module"); status = status.Negative }
+
+-- Notes that are not of the form FirstNotes.
+abbrev pub unbuilt_notes : Report
+unbuilt_notes = record { text = line (codes "unbuilt notes"); status = status.Negative }
+
+-- What the outline is.
+abbrev pub outlined : Outline → Report
+outlined outlines.Verified = record { text = line (codes "verified"); status = status.Good }
+outlined (outlines.Failed at function reason) = record { text = failed_line at function reason; status = status.Negative }
+outlined (outlines.Limit at word) = record { text = limit_line word at; status = status.Limit }
+
+-- The notes, and then the outline.
+abbrev pub noted : Module → Marks → Option Notes → Report
+noted m k None = unbuilt_notes
+noted m k (Some notes) = outlined (outline m k notes)
+
+-- The bytes' fault: they are malformed, or a limit of the decoder is passed.
+abbrev pub IsFaultReport : DecodeFault → Report → Type 0
+IsFaultReport (decode.Malformed at w) r = r ≡ record { text = malformed_line w at; status = status.Negative }
+IsFaultReport (decode.Limit at w) r = r ≡ record { text = limit_line w at; status = status.Limit }
+IsFaultReport decode.OutOfMemory r = ⊥
+
+-- The first fault of a module that isn't valid.
+abbrev pub invalid_report : ℕ → ValidWord → Report
+invalid_report at w = record { text = invalid_line w at; status = status.Negative }
+
+-- What may be reported of something.
+abbrev pub ReportsOf : Type 0 → Type 1
+ReportsOf A = A → Report → Type 0
+
+-- Of a file: it is missing, or too long, or else what Next says of its contents.
+unfoldable pub OfFile : ℕ → Report → ReportsOf (List ℕ) → ReportsOf (Option (List ℕ))
+OfFile limit too_long Next None r = r ≡ nothing_read
+OfFile limit too_long Next (Some contents) r =
+    ((limit < length contents) × (r ≡ too_long)) ⊎ ((length contents ≤ limit) × Next contents r)
+
+-- Of bytes: what Next says of the module and the marks that they spell within the limits, or else their fault.
+unfoldable pub OfBytes : (Module → Marks → Report → Type 0) → ReportsOf (List ℕ)
+OfBytes Next bytes r =
+    ((m : Module) × (k : Marks) × Spells bytes m k × InLimits the_bounds m × Next m k r) ⊎
+    ((fault : DecodeFault) × Fault the_bounds bytes fault × IsFaultReport fault r)
+
+-- Of a module with its marks: what Next says where it is valid, or else its first fault.
+unfoldable pub OfModule : (Module → Marks → Report → Type 0) → Module → Marks → Report → Type 0
+OfModule Next m k r =
+    (Valid m × Next m k r) ⊎ ((at : ℕ) × (w : ValidWord) × InvalidAt m k at w × (r ≡ invalid_report at w))
+
+-- Of a valid module with its marks, for a text of notes: it is not of the form First, or else what the notes and the outline
+-- come to.
+unfoldable pub OfFirst : List ℕ → Module → Marks → Report → Type 0
+OfFirst text m k r = (IsFirst m × (r ≡ noted m k (first_notes text))) ⊎ ((IsFirst m → ⊥) × (r ≡ unbuilt_module))
+
+-- The listed forms of words: `check MODULE`, `show MODULE` and `verify MODULE NOTES`.
+pub data Command : Type 0 where
+  Check : List ℕ → Command
+  Show : List ℕ → Command
+  Verify : List ℕ → List ℕ → Command
+
+-- The command that words are, if they have a listed form.
+abbrev pub command_of : List (List ℕ) → Option Command
+command_of (word ∷ «module» ∷ []) =
+    if bytes_eq word (codes "check") then Some (Check «module») else (if bytes_eq word (codes "show") then Some (Show «module») else None)
+command_of (word ∷ «module» ∷ notes ∷ []) = if bytes_eq word (codes "verify") then Some (Verify «module» notes) else None
+command_of _ = None
+
+-- Files by name: each is its name and its contents.
+abbrev pub Files : Type 0
+Files = List (List ℕ × List ℕ)
+
+-- What files hold are bytes.
+abbrev pub HoldBytes : Files → Type 0
+HoldBytes files = All (λ file. BytesInRange file.1) files
+
+-- Whether bytes spell a valid module.
+abbrev pub OfChecked : ReportsOf (List ℕ)
+OfChecked = OfBytes (OfModule (λ m k r. r ≡ module_valid))
+
+-- The listing of the module that bytes spell.
+abbrev pub OfShown : ReportsOf (List ℕ)
+OfShown = OfBytes (λ m k r. r ≡ module_listed m k)
+
+-- Whether the notes verify the module that bytes spell.
+abbrev pub OfJudged : List ℕ → ReportsOf (List ℕ)
+OfJudged bytes text = OfBytes (OfModule (OfFirst text)) bytes
+
+-- The notes file, for a module that was read.
+abbrev pub OfNotes : List ℕ → ReportsOf (Option (List ℕ))
+OfNotes bytes = OfFile notes_limit notes_too_long (OfJudged bytes)
+
+-- `check MODULE`: the module file and its length, then its bytes, then whether the module is valid.
+abbrev pub OfCheck : Files → List ℕ → Report → Type 0
+OfCheck files «module» = OfFile module_limit module_too_long OfChecked (contents_of files «module»)
+
+-- `show MODULE`: the module file and its length, then its bytes.
+abbrev pub OfShow : Files → List ℕ → Report → Type 0
+OfShow files «module» = OfFile module_limit module_too_long OfShown (contents_of files «module»)
+
+-- `verify MODULE NOTES`: the module file and its length, then the notes file and its length, then the module's bytes, its
+-- validity and its form, then the notes, then the outline.
+abbrev pub OfVerify : Files → List ℕ → List ℕ → Report → Type 0
+OfVerify files «module» notes = OfFile module_limit module_too_long (λ bytes. OfNotes bytes (contents_of files notes)) (contents_of files «module»)
+
+-- Of a command, or of words that are none.
+abbrev pub OfCommand : Files → Option Command → Report → Type 0
+OfCommand files None r = r ≡ words_refused
+OfCommand files (Some (Check «module»)) r = OfCheck files «module» r
+OfCommand files (Some (Show «module»)) r = OfShow files «module» r
+OfCommand files (Some (Verify «module» notes)) r = OfVerify files «module» notes r
+
+-- The report of the words over the files; there is at most one, and one where the files hold bytes.
+abbrev pub IsReport : List (List ℕ) → Files → Report → Type 0
+IsReport words files r = OfCommand files (command_of words) r

@@ -1,0 +1,97 @@
+// What is said of bytes, and of the module that they spell.
+
+ghost use Rattle.std.specs.Prelude.{◌≡◌, IfOk, IfErr};
+ghost use Rattle.verify_report.specs.Reports.{IsFaultReport, OfModule, OfChecked, OfShown, invalid_report, module_valid, module_listed, seen};
+ghost use Rattle.verify_report.specs.Outcomes.{IsSpoken};
+ghost use Rattle.wasm_typing.specs.Faults.{Marked};
+
+use crate::line::{decode_text, limit_text, valid_text, word_line};
+use crate::report::{Report, Stop, fixed, negative};
+use crate::status::Status;
+use binary_grammar::{DecodeFault, Decoded};
+use module_listing::listing;
+use std::alloc::Global;
+use wasm_binary::decode;
+use wasm_validate::{ValidFault, ValidWord, validate};
+
+/// The bytes' fault.
+pub fn faulty(alloc: Global, fault: DecodeFault) -> Result<Report, Stop>
+    ensures made { IfOk result (λ r. IsFaultReport fault (seen r)) }
+    ensures memory { IfErr result (λ stop. stop ≡ Stop.Memory) }
+    ensures spoken { IfOk result (λ r. IsSpoken r.status) }
+{
+    match fault {
+        DecodeFault::Malformed { at, word } => {
+            let text = word_line(alloc, b"malformed", decode_text(word), at)?;
+            Ok(negative(text))
+        }
+        DecodeFault::Limit { at, word } => Ok(Report {
+            text: word_line(alloc, b"limit", limit_text(word), at)?,
+            status: Status::Limit,
+        }),
+        DecodeFault::OutOfMemory => Err(Stop::Memory),
+    }
+}
+
+/// A module's first fault.
+pub fn invalid(alloc: Global, at: usize, word: ValidWord) -> Result<Report, Stop>
+    ensures made { IfOk result (λ r. seen r ≡ invalid_report at word) }
+    ensures memory { IfErr result (λ stop. stop ≡ Stop.Memory) }
+    ensures spoken { IfOk result (λ r. IsSpoken r.status) }
+{
+    let text = word_line(alloc, b"invalid", valid_text(word), at)?;
+    Ok(negative(text))
+}
+
+// Whether a module is valid.
+fn checked_module(alloc: Global, decoded: Decoded) -> Result<Report, Stop>
+    requires { Marked decoded.module decoded.marks }
+    ensures made { IfOk result (λ r. OfModule (λ m k r. r ≡ module_valid) decoded.module decoded.marks (seen r)) }
+    ensures memory { IfErr result (λ stop. stop ≡ Stop.Memory) }
+    ensures spoken { IfOk result (λ r. IsSpoken r.status) }
+{
+    let Decoded { module, marks } = decoded;
+    match validate(alloc, module, &marks) {
+        Ok(_) => fixed(alloc, b"valid\n", Status::Good),
+        Err(ValidFault::Invalid { at, word }) => invalid(alloc, at, word),
+        Err(ValidFault::OutOfMemory) => Err(Stop::Memory),
+    }
+}
+
+/// Whether bytes spell a valid module.
+pub fn checked(alloc: Global, bytes: &[u8]) -> Result<Report, Stop>
+    ensures made { IfOk result (λ r. OfChecked bytes.now (seen r)) }
+    ensures memory { IfErr result (λ stop. stop ≡ Stop.Memory) }
+    ensures spoken { IfOk result (λ r. IsSpoken r.status) }
+{
+    match decode(alloc, bytes) {
+        Ok(decoded) => checked_module(alloc, decoded),
+        Err(fault) => faulty(alloc, fault),
+    }
+}
+
+// The listing of a module.
+fn listed(alloc: Global, decoded: &Decoded) -> Result<Report, Stop>
+    requires { Marked decoded.now.module decoded.now.marks }
+    ensures made { IfOk result (λ r. seen r ≡ module_listed decoded.now.module decoded.now.marks) }
+    ensures memory { IfErr result (λ stop. stop ≡ Stop.Memory) }
+    ensures spoken { IfOk result (λ r. IsSpoken r.status) }
+{
+    let text = listing(alloc, &decoded.module, &decoded.marks)?;
+    Ok(Report {
+        text: text.into_vec(),
+        status: Status::Good,
+    })
+}
+
+/// The listing of the module that bytes spell.
+pub fn shown(alloc: Global, bytes: &[u8]) -> Result<Report, Stop>
+    ensures made { IfOk result (λ r. OfShown bytes.now (seen r)) }
+    ensures memory { IfErr result (λ stop. stop ≡ Stop.Memory) }
+    ensures spoken { IfOk result (λ r. IsSpoken r.status) }
+{
+    match decode(alloc, bytes) {
+        Ok(decoded) => listed(alloc, &decoded),
+        Err(fault) => faulty(alloc, fault),
+    }
+}
