@@ -4,4 +4,6 @@
 #[cfg(test)]
 mod tables;
 #[cfg(test)]
+mod terms;
+#[cfg(test)]
 mod trees;

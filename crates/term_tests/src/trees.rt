@@ -2,21 +2,12 @@ ghost use Rattle.std.specs.Prelude.{◌≡◌, IfOk, IsTrue};
 ghost use Rattle.wasm_values.specs.Operators.{num_operands, operands};
 ghost use Rattle.term_trees.specs.Terms.{well_formed, is_low_width, is_sext_pair, is_sgn_width};
 
+use crate::terms::two;
 use std::alloc::Global;
 use std::test::Fail;
 use term_trees::forms::Normal;
 use term_trees::{Boxed, Formula, Term, ground, normal};
 use wasm_values::{IntOp, NumOp, OutOfMemory};
-
-/// Two operands under an operator.
-fn two(alloc: Global, op: NumOp, a: i128, b: i128) -> Result<Term, OutOfMemory>
-    requires { num_operands op ≡ 2 }
-    ensures { IfOk result (λ t. IsTrue (well_formed t)) }
-{
-    let a = Boxed::new(alloc, Term::Num(a))?;
-    let b = Boxed::new(alloc, Term::Num(b))?;
-    Ok(Term::Two(op, a, b))
-}
 
 /// `(+ v0 (* 2 (- v0 1)))`.
 fn three_times(alloc: Global) -> Result<Term, OutOfMemory>
