@@ -2,7 +2,7 @@
 use Rattle.term_trees.specs.Same.{same_formula}
 use Rattle.std.proofs.Common.{◌≡◌, ℕ, Bor, List, [], None, refl, sym, ap, ◌∙◌}
 use Rattle.term_trees.specs.declared.term.Place.{Place}
-use Rattle.term_trees.specs.declared.term.Place.TheVariants.{Local, Stack, Global, Pages, Arg, Result}
+use Rattle.term_trees.specs.declared.term.Place.TheVariants.{Local, Stack, Global, Pages, Arg, Result, Index, Item}
 use Rattle.term_trees.specs.declared.term.Term.{Term, roll-Term, map-Term, fold-roll-Term}
 use Rattle.term_trees.specs.declared.term.Term.TheOpen.{Term-F, Num, Var, Own, At, Add, Sub, Mul, One, Two, Low, Sext, Sgn}
 use Rattle.term_trees.specs.declared.term.Term.TheVariants.{rolls-Num, rolls-Var, rolls-Own, rolls-At, rolls-Add, rolls-Sub, rolls-Mul, rolls-One, rolls-Two, rolls-Low, rolls-Sext, rolls-Sgn}
@@ -41,6 +41,8 @@ no_place (Global k) = refl
 no_place Pages = refl
 no_place (Arg k) = refl
 no_place Result = refl
+no_place Index = refl
+no_place Item = refl
 
 no_leaves : (ts : List Term) → Empty (leaves_of ts no_ids)
 no_leaves ts = record { variable = λ k. refl; own = λ k. refl; place = λ p. ap (option_map (tree_at ts)) (no_place p) }

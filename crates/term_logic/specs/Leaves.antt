@@ -2,7 +2,7 @@
 use Rattle.std.specs.Prelude.{ℕ, ◌<◌, List, reverse, slice_get, Option, None, option_and_then, IfSome}
 use Rattle.std.specs.Option.{option_map}
 use Rattle.term_trees.specs.declared.term.Place.{Place}
-use Rattle.term_trees.specs.declared.term.Place.TheVariants.{Local, Stack, Global, Pages, Arg, Result}
+use Rattle.term_trees.specs.declared.term.Place.TheVariants.{Local, Stack, Global, Pages, Arg, Result, Index, Item}
 use Rattle.term_trees.specs.declared.term.Term.{Term}
 use Rattle.term_trees.specs.Leaves.{Leaves}
 use Rattle.term_logic.specs.declared.leaves.LeafIds.{LeafIds}
@@ -16,6 +16,8 @@ place_id l (Global k) = option_and_then (λ e. e) (slice_get l.globals.now k)
 place_id l Pages = l.pages
 place_id l (Arg k) = slice_get l.args.now k
 place_id l Result = l.result
+place_id l Index = None
+place_id l Item = None
 
 -- The trees of the positions.
 abbrev pub leaves_of : List Term → LeafIds → Leaves

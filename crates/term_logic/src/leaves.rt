@@ -78,6 +78,7 @@ impl LeafIds<'_> {
             Place::Pages => self.pages,
             Place::Arg(k) => self.args.get(k as usize).copied(),
             Place::Result => self.result,
+            Place::Index | Place::Item => None,
         }
     }
 }

@@ -10,7 +10,7 @@ use Rattle.wasm_values.specs.contracts.number.NumOpPartialEq.TheImpl as num_eq
 use Rattle.wasm_values.specs.contracts.number.IntOpPartialEq.TheImpl as op_eq
 use Rattle.wasm_values.specs.contracts.number.NumOpEq.TheImpl.Laws as num_laws
 use Rattle.term_trees.specs.declared.term.Place.{Place}
-use Rattle.term_trees.specs.declared.term.Place.TheVariants.{Local, Stack, Global, Pages, Arg, Result}
+use Rattle.term_trees.specs.declared.term.Place.TheVariants.{Local, Stack, Global, Pages, Arg, Result, Index, Item}
 use Rattle.term_trees.specs.contracts.term.PlacePartialEq.TheImpl as place_eq
 use Rattle.term_trees.specs.contracts.term.PlaceEq.TheImpl.Laws as place_laws
 
@@ -21,6 +21,8 @@ exact_place (Global a) (Global b) e = ap Global (eqb-true a b e)
 exact_place Pages Pages e = refl
 exact_place (Arg a) (Arg b) e = ap Arg (eqb-true a b e)
 exact_place Result Result e = refl
+exact_place Index Index e = refl
+exact_place Item Item e = refl
 exact_place _ _ e = absurd (true≢false (sym e))
 
 exact_int_op : (x y : IntOp) → (op_eq.ghosts).eq x y ≡ true → x ≡ y

@@ -10,6 +10,8 @@ pub enum Place {
     Pages,
     Arg(u32),
     Result,
+    Index,
+    Item,
 }
 
 /// A whole number, as a tree.
