@@ -3,10 +3,11 @@
 
     bench/gate.py [WORD..]
 
-The words are a command, by default `rt ci`. It is run in this checkout, and what the provers on this machine take is read from
+The words are a command, by default `rt ci`. It is run in this checkout, and what the provers that it starts take is read from
 /proc twice a second. At the end come the seconds of each crate's own proof, of the proof with its tests, of the check that its must-fail
-edits begin with, and of each edit. What an earlier run kept takes no time: on a machine that keeps nothing the sum is
-what the whole gate costs.
+edits begin with, and of each edit; then the processor minutes of the whole gate, and those of the first command: the proofs of the
+crates that the program stands on, which `./pegdrauna` makes before its first answer on a new machine. What an earlier run kept takes
+no time: on a machine that keeps nothing the sums are what both cost.
 """
 
 import collections
@@ -17,8 +18,10 @@ import sys
 import threading
 
 TICKS = os.sysconf("SC_CLK_TCK")
-CRATES = pathlib.Path(__file__).resolve().parent.parent / "crates"
+ROOT = pathlib.Path(__file__).resolve().parent.parent
+CRATES = ROOT / "crates"
 COLUMNS = ("proof", "tests", "seed", "edits")
+PROGRAM = "verify_command"
 
 
 def words_after(words, option):
@@ -44,14 +47,32 @@ def read(process):
     return fields[19], (crate, column), (int(fields[11]) + int(fields[12])) / TICKS
 
 
-def sample(seconds):
-    """Notes what each prover that runs now has taken."""
+def parent_of(process):
+    """The process that started this one, or an empty word."""
+    try:
+        with open(f"/proc/{process}/stat", encoding="utf-8", errors="replace") as file:
+            return file.read().rpartition(")")[2].split()[1]
+    except OSError:
+        return ""
+
+
+def is_below(process, root):
+    """Whether a process was started by the root process, or by one below it."""
+    while process not in ("", "0", "1"):
+        if process == root:
+            return True
+        process = parent_of(process)
+    return False
+
+
+def sample(seconds, root):
+    """Notes what each prover below the root process has taken."""
     for process in filter(str.isdigit, os.listdir("/proc")):
         try:
             found = read(process)
         except OSError:
             continue
-        if found:
+        if found and is_below(process, root):
             start, counted, taken = found
             seconds[process, start, counted] = taken
 
@@ -62,18 +83,35 @@ def edit_name(crate, number):
     return edits[number].stem if number < len(edits) else str(number)
 
 
+def crates_of_program():
+    """The program's crate and those that it stands on, by crates.txt."""
+    below = {}
+    for line in (ROOT / "crates.txt").read_text(encoding="utf-8").splitlines():
+        name, colon, stands_on = line.partition("#")[0].partition(":")
+        if colon:
+            below[name.split()[0]] = stands_on.split()
+    found, waiting = set(), [PROGRAM]
+    while waiting:
+        crate = waiting.pop()
+        if crate in below and crate not in found:
+            found.add(crate)
+            waiting += below[crate]
+    return found
+
+
 def main():
     """Runs the command and prints the tables; the status is the command's."""
     command = sys.argv[1:] or ["rt", "ci"]
     seconds, ended = {}, threading.Event()
+    running = subprocess.Popen(command, cwd=ROOT)
 
     def watch():
         while not ended.wait(0.5):
-            sample(seconds)
+            sample(seconds, str(running.pid))
 
     watcher = threading.Thread(target=watch)
     watcher.start()
-    status = subprocess.run(command, cwd=CRATES.parent, check=False).returncode
+    status = running.wait()
     ended.set()
     watcher.join()
     sums, edits = collections.Counter(), collections.Counter()
@@ -87,6 +125,8 @@ def main():
     print(f"{'sum':<20}" + "".join(f"{sum(taken for (_, at), taken in sums.items() if at == it):>8.0f}" for it in COLUMNS))
     for (crate, number), taken in edits.most_common():
         print(f"{taken:>8.0f}  {crate}/{edit_name(crate, number)}")
+    first = sum(sums[crate, "proof"] for crate in crates_of_program())
+    print(f"the whole gate: {sum(sums.values()) / 60:.0f} processor minutes; the first command: {first / 60:.0f}")
     return status
 
 
