@@ -5,3 +5,4 @@ pub mod SignedLemmas
 pub mod RangeLaws
 pub mod ByteLaws
 pub mod UndefinedLaws
+pub mod TypeLaws

@@ -1,8 +1,7 @@
-ghost use Rattle.std.specs.Prelude.{◌≡◌, ◌↔◌, IsTrue};
-ghost use Rattle.wasm_values.specs.Operators.{operands};
-
-use super::*;
 use std::test::Fail;
+use wasm_values::{
+    Bytes, IntOp, List, NumOp, Text, Val, Width, load_le, num1, num2, sext, store_le,
+};
 
 // What an operator of two operands that is defined everywhere gives at each pair, at 32 and at 64 bits.
 struct Two {
@@ -353,23 +352,11 @@ static ONE: [One; 4] = [
     },
 ];
 
-fn takes_two(op: IntOp) -> bool
-    ensures { IsTrue result ↔ (operands op ≡ 2) }
-{
-    !takes_one(op)
-}
-
-fn takes_one(op: IntOp) -> bool
-    ensures { IsTrue result ↔ (operands op ≡ 1) }
-{
-    matches!(op, IntOp::Eqz | IntOp::Clz | IntOp::Ctz | IntOp::Popcnt)
-}
-
 #[test]
 fn operators_of_two_operands(rt: HostRuntime) {
     for row in &TWO {
         let op = row.op;
-        assert!(rt; takes_two(op), "{op:?}");
+        assert!(rt; !op.is_unary(), "{op:?}");
         for (i, (a, b)) in NARROW_PAIRS.iter().enumerate() {
             let given = Width::<32>::two(op, u64::from(*a), u64::from(*b));
             assert_eq!(rt;
@@ -388,12 +375,12 @@ fn operators_of_two_operands(rt: HostRuntime) {
 #[test]
 fn quotients_and_remainders(rt: HostRuntime) {
     for (op, a, b, wanted) in &NARROW_DIVISIONS {
-        assert!(rt; takes_two(*op), "{op:?}");
+        assert!(rt; !op.is_unary(), "{op:?}");
         let given = Width::<32>::two(*op, u64::from(*a), u64::from(*b));
         assert_eq!(rt; given, *wanted, "{op:?} at {a} and {b}, 32 bits");
     }
     for (op, a, b, wanted) in &WIDE_DIVISIONS {
-        assert!(rt; takes_two(*op), "{op:?}");
+        assert!(rt; !op.is_unary(), "{op:?}");
         assert_eq!(rt;
             Width::<64>::two(*op, *a, *b),
             *wanted,
@@ -406,7 +393,7 @@ fn quotients_and_remainders(rt: HostRuntime) {
 fn operators_of_one_operand(rt: HostRuntime) {
     for row in &ONE {
         let op = row.op;
-        assert!(rt; takes_one(op), "{op:?}");
+        assert!(rt; op.is_unary(), "{op:?}");
         for (i, a) in NARROW.iter().enumerate() {
             assert_eq!(rt;
                 Width::<32>::one(op, u64::from(*a)),
