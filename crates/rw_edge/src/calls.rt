@@ -3,7 +3,7 @@ ghost use Rattle.std.specs.Prelude.{◌≡◌, ◌⊎◌, ◌↔◌, IsTrue, Con
 ghost use Rattle.rw_edge.specs.Count.{next_count};
 
 /// The numbers of the calls that fail, the number of the next call, and the count of faults.
-#[derive(Debug, Drop)]
+#[derive(Drop)]
 pub struct Calls {
     pub fail: Vec<u64>,
     pub number: u64,

@@ -21,6 +21,3 @@ pub use shelf::Shelf;
 pub use sink::Sink;
 pub use std_sink::StdSink;
 pub use writing::emit;
-
-#[cfg(test)]
-mod tests;

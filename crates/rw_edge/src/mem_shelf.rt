@@ -12,7 +12,7 @@ use wasm_values::{Bytes, Text};
 
 /// Files in memory. Calls are numbered together from 0, and chosen ones fail. Of two files with one name the first
 /// counts.
-#[derive(Debug, Drop)]
+#[derive(Drop)]
 pub struct MemShelf {
     files: Vec<(Text, Bytes)>,
     place: Option<usize>,

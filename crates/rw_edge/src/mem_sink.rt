@@ -11,7 +11,7 @@ use wasm_values::OutOfMemory;
 
 /// A sink in memory with limited room. One write takes the least of the piece's length, of what one write takes at
 /// most, and of what is left of the room. Writes are numbered from 0, and chosen ones fail.
-#[derive(Debug, Drop)]
+#[derive(Drop)]
 pub struct MemSink {
     written: Vec<u8>,
     room: usize,
@@ -48,19 +48,16 @@ impl MemSink {
         requires { 0 < take }
         ensures { IfOk result (λ sink. sink ≡ record { written = []; room = room; take = take; fail = fail.items; number = 0; faults = 0 }) }
     {
-        match Vec::with_capacity(alloc, room) {
-            Ok(written) => Ok(MemSink {
-                written,
-                room,
-                most: take,
-                calls: Calls {
-                    fail,
-                    number: 0,
-                    faults: 0,
-                },
-            }),
-            Err(_) => Err(OutOfMemory),
-        }
+        Ok(MemSink {
+            written: Vec::with_capacity(alloc, room)?,
+            room,
+            most: take,
+            calls: Calls {
+                fail,
+                number: 0,
+                faults: 0,
+            },
+        })
     }
 
     /// The bytes that were written.
