@@ -9,9 +9,9 @@ use Rattle.binary_grammar.specs.declared.fault.DecodeWord.TheVariants as word
 use Rattle.wasm_values.specs.declared.limit.LimitWord.TheVariants as limit
 use Rattle.binary_grammar.specs.declared.section.Body.{Body}
 use Rattle.binary_grammar.specs.Bounds.{copies}
-use Rattle.binary_grammar.specs.Reading.{◌>>=◌, Reader, place, then_at, done_at, number_at, region_at, ended, sized_at}
-use Rattle.binary_grammar.specs.TypeReading.{value_type_at}
-use Rattle.binary_grammar.specs.CodeReading.{run_of_locals_at, runs_at, locals_at, body_contents_at, body_at}
+use Rattle.binary_grammar.specs.words.Reading.{◌>>=◌, Reader, place, then_at, done_at, number_at, region_at, ended, sized_at}
+use Rattle.binary_grammar.specs.words.TypeReading.{value_type_at}
+use Rattle.binary_grammar.specs.words.CodeReading.{run_of_locals_at, runs_at, locals_at, body_contents_at, body_at}
 use Rattle.binary_grammar.specs.Grammar.{Spelling, Then, Done, SpellsNumber, Each}
 use Rattle.binary_grammar.specs.CodeGrammar.{SpellsRun, locals_of, Runs, SpellsLocals, OfLength, Sized, SpellsBodyContents, SpellsBody, NestsAtMost}
 use Rattle.binary_grammar.proofs.NumberLaws.{chosen}

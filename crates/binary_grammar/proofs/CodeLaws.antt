@@ -11,8 +11,8 @@ use Rattle.wasm_syntax.specs.FlatForm.{is_simple, flat, flat_body}
 use Rattle.wasm_syntax.specs.Parts.{Part, own, may_turn, then_item, parts_of, StandFor}
 use Rattle.wasm_syntax.proofs.PartLemmas.{finished, some_marks, parts_of-push, parts_of-none, StandFor-new}
 use Rattle.wasm_syntax.proofs.PartLaws.{parts_of-flat}
-use Rattle.binary_grammar.specs.Reading.{◌>>=◌, place}
-use Rattle.binary_grammar.specs.CodeReading.{item_at, is_last, own_instrs, rest_at, expression_at, instrs_at}
+use Rattle.binary_grammar.specs.words.Reading.{◌>>=◌, place}
+use Rattle.binary_grammar.specs.words.CodeReading.{item_at, is_last, own_instrs, rest_at, expression_at, instrs_at}
 use Rattle.binary_grammar.specs.Grammar.{Then, Done, Tagged, Each}
 use Rattle.binary_grammar.specs.CodeGrammar.{InstrOf, ItemOf, SpellsItem, SpellsExpression, SpellsInstrs, opened, MayOpen, OpenAtMost, NestsAtMost}
 use Rattle.binary_grammar.proofs.NumberLaws.{chosen}

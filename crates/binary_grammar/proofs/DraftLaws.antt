@@ -16,7 +16,7 @@ use Rattle.binary_grammar.specs.declared.section.Section.{Section}
 use Rattle.binary_grammar.specs.declared.section.Section.TheVariants as section
 use Rattle.binary_grammar.specs.declared.section.Draft.{Draft}
 use Rattle.binary_grammar.specs.declared.section.Decoded.{Decoded}
-use Rattle.binary_grammar.specs.SectionReading.{with_section, no_sections, whole_module, funcs_of, places_of}
+use Rattle.binary_grammar.specs.words.SectionReading.{with_section, no_sections, whole_module, funcs_of, places_of}
 use Rattle.binary_grammar.specs.ModuleGrammar.{id_of, Rising, given, type_section, import_section, function_section, table_section, memory_section, global_section, export_section, start_section, element_section, code_section, data_section, AreFuncs, last_filled, if_custom, customs_of, AreParts, Spells}
 use Rattle.binary_grammar.proofs.Drafts.{InOrder, Counts, MayStand, with_sections, Drafted}
 

@@ -5,7 +5,7 @@ use Rattle.wasm_syntax.specs.declared.module.Marks.{Marks}
 use Rattle.binary_grammar.specs.declared.section.Section.{Section}
 use Rattle.binary_grammar.specs.declared.section.Section.TheVariants as section
 use Rattle.binary_grammar.specs.declared.section.Draft.{Draft}
-use Rattle.binary_grammar.specs.SectionReading.{with_section, no_sections, whole_module, header}
+use Rattle.binary_grammar.specs.words.SectionReading.{with_section, no_sections, whole_module, header}
 use Rattle.binary_grammar.specs.ModuleGrammar.{id_of, InTurn}
 
 -- A section may stand behind those of a draft: it is custom, or has a greater id than the last that is not, and there are

@@ -4,8 +4,8 @@ use Rattle.std.specs.List.{AllByRecursion}
 use Rattle.std.proofs.lemmas.List.{length-append, append-nil}
 use Rattle.binary_grammar.specs.declared.fault.DecodeFault.{DecodeFault}
 use Rattle.binary_grammar.specs.declared.fault.LebFault.{LebFault}
-use Rattle.binary_grammar.specs.NumberReading.{u32_at}
-use Rattle.binary_grammar.specs.Reading.{◌>>=◌, Reader, place, then_at, done_at, of_number, number_at, byte_at, of_byte, tagged_at, entries_at, vector_at, list_at}
+use Rattle.binary_grammar.specs.words.NumberReading.{u32_at}
+use Rattle.binary_grammar.specs.words.Reading.{◌>>=◌, Reader, place, then_at, done_at, of_number, number_at, byte_at, of_byte, tagged_at, entries_at, vector_at, list_at}
 use Rattle.binary_grammar.specs.Grammar.{Spelling, Then, Done, Tagged, SpellsNumber, Each, Many, SpellsVector, SpellsList}
 use Rattle.binary_grammar.proofs.NumberLaws.{u32_takes, u32_again}
 

@@ -12,11 +12,11 @@ use Rattle.binary_grammar.specs.declared.fault.DecodeFault.{DecodeFault}
 use Rattle.binary_grammar.specs.declared.fault.DecodeFault.TheVariants.{Malformed, Limit, OutOfMemory}
 use Rattle.binary_grammar.specs.declared.section.Decoded.{Decoded}
 use Rattle.binary_grammar.specs.Bounds.{Bounds}
-use Rattle.binary_grammar.specs.NumberReading.{u32_at, s32_at, s64_at}
-use Rattle.binary_grammar.specs.Reading.{◌>>=◌, Reader, place, of_number, number_at, byte_at, of_byte, run_at, text_of, text_at, region_at, ended}
-use Rattle.binary_grammar.specs.TypeReading.{value_type_of, value_type_at, tag_of, tag_at, flag_of, flag_at, block_type_of, block_type_at}
-use Rattle.binary_grammar.specs.CodeReading.{word32_at, word64_at}
-use Rattle.binary_grammar.specs.SectionReading.{id_at, header, magic_at, header_at, module_at}
+use Rattle.binary_grammar.specs.words.NumberReading.{u32_at, s32_at, s64_at}
+use Rattle.binary_grammar.specs.words.Reading.{◌>>=◌, Reader, place, of_number, number_at, byte_at, of_byte, run_at, text_of, text_at, region_at, ended}
+use Rattle.binary_grammar.specs.words.TypeReading.{value_type_of, value_type_at, tag_of, tag_at, flag_of, flag_at, block_type_of, block_type_at}
+use Rattle.binary_grammar.specs.words.CodeReading.{word32_at, word64_at}
+use Rattle.binary_grammar.specs.words.SectionReading.{id_at, header, magic_at, header_at, module_at}
 use Rattle.binary_grammar.specs.Readings.{Wanted, Header, Next, FileEnd, Size, RegionEnd, Number, Few, Count, RunCount, Word32, Word64, Utf8, Bytes, Rest, ValueType, BlockType, Tag, Flag, KindByte, Op, Here, Left, local, few_at, count_at, run_count_at, kind_byte_of, opening, turning, opcode_of, kind_accepted, next_of, accept}
 use Rattle.binary_grammar.specs.Plans.{ReadsModule, Fault}
 use Rattle.binary_grammar.proofs.PlanWhole.{reads_module, stops_module}

@@ -17,10 +17,10 @@ use Rattle.wasm_syntax.proofs.OpcodeLaws.{kind_of-code_of, code_of-kind_of}
 use Rattle.binary_grammar.specs.declared.fault.DecodeFault.{DecodeFault}
 use Rattle.binary_grammar.specs.declared.fault.DecodeFault.TheVariants.{Malformed}
 use Rattle.binary_grammar.specs.declared.fault.DecodeWord.TheVariants.{Byte}
-use Rattle.binary_grammar.specs.NumberReading.{s32_at, s64_at}
-use Rattle.binary_grammar.specs.Reading.{Reader, place, then_at, done_at, of_number, number_at}
-use Rattle.binary_grammar.specs.TypeReading.{tag_at}
-use Rattle.binary_grammar.specs.CodeReading.{word32_at, word64_at, index_at, indexed_at, simple_at, head_at, op_at, kind_at, item_at}
+use Rattle.binary_grammar.specs.words.NumberReading.{s32_at, s64_at}
+use Rattle.binary_grammar.specs.words.Reading.{Reader, place, then_at, done_at, of_number, number_at}
+use Rattle.binary_grammar.specs.words.TypeReading.{tag_at}
+use Rattle.binary_grammar.specs.words.CodeReading.{word32_at, word64_at, index_at, indexed_at, simple_at, head_at, op_at, kind_at, item_at}
 use Rattle.binary_grammar.specs.Grammar.{Spelling, Then, Done, SpellsBlockType}
 use Rattle.binary_grammar.specs.CodeGrammar.{SpellsWord32, SpellsWord64, WithIndex, WithTwo, WithZero, Never, InstrOf, ItemOf, SpellsItem}
 use Rattle.binary_grammar.proofs.NumberLaws.{s32_takes, s32_again, s64_takes, s64_again}

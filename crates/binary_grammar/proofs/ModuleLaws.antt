@@ -14,8 +14,8 @@ use Rattle.binary_grammar.specs.declared.section.Section.TheVariants as section
 use Rattle.binary_grammar.specs.declared.section.Draft.{Draft}
 use Rattle.binary_grammar.specs.declared.section.Decoded.{Decoded}
 use Rattle.binary_grammar.specs.Bounds.{Bounds}
-use Rattle.binary_grammar.specs.Reading.{◌>>=◌, place}
-use Rattle.binary_grammar.specs.SectionReading.{section_at, with_section, no_sections, sections_at, funcs_of, whole_module, finished_at, header, magic_at, header_at, module_at}
+use Rattle.binary_grammar.specs.words.Reading.{◌>>=◌, place}
+use Rattle.binary_grammar.specs.words.SectionReading.{section_at, with_section, no_sections, sections_at, funcs_of, whole_module, finished_at, header, magic_at, header_at, module_at}
 use Rattle.binary_grammar.specs.ModuleGrammar.{id_of, SpellsSection, InTurn, Spells, FuncTypeWithin, GlobalWithin, ElemWithin, SegmentWithin, FuncWithin, InLimits}
 use Rattle.binary_grammar.proofs.Drafts.{InOrder, MayStand, with_sections, Drafted}
 use Rattle.binary_grammar.proofs.DraftLaws.{spelled, drafted}

@@ -8,7 +8,7 @@ use Rattle.std.proofs.lemmas.List.{length-append}
 use Rattle.binary_grammar.specs.declared.fault.LebFault.{LebFault}
 use Rattle.binary_grammar.specs.declared.fault.LebFault.TheVariants.{End, Number}
 use Rattle.binary_grammar.specs.Numbers.{AreDigits, AreOpen, EndsInside, IsFound, ReadsNumber, base_128, twos_complement, SpellsU32, SpellsSigned, SpellsS32, SpellsS64}
-use Rattle.binary_grammar.specs.NumberReading.{further, digits_at, then_small, u32_at, is_within, then_signed, s32_at, s64_at, placed}
+use Rattle.binary_grammar.specs.words.NumberReading.{further, digits_at, then_small, u32_at, is_within, then_signed, s32_at, s64_at, placed}
 
 pub chosen : {A : Type 0} (b : Bool) (x y z : A) → cond b x y ≡ z → ((b ≡ true) × (x ≡ z)) ⊎ ((b ≡ false) × (y ≡ z))
 chosen true x y z e = inl (refl, e)

@@ -19,9 +19,9 @@ use Rattle.binary_grammar.specs.declared.fault.DecodeFault.TheVariants.{Malforme
 use Rattle.binary_grammar.specs.declared.fault.DecodeWord.TheVariants as word
 use Rattle.wasm_values.specs.declared.limit.LimitWord.{LimitWord}
 use Rattle.wasm_values.specs.declared.limit.LimitWord.TheVariants as limit
-use Rattle.binary_grammar.specs.Reading.{◌>>=◌, Reader, place, then_at, done_at, of_byte, tagged_at, number_at, byte_at, entries_at, vector_at, limited_at, list_at, run_at, bytes_at, text_at, name_at}
-use Rattle.binary_grammar.specs.TypeReading.{value_type_at, tag_at, flag_at, block_type_at, func_type_at, greatest_at, limits_at, table_type_at, global_type_at}
-use Rattle.binary_grammar.specs.CodeReading.{word32_at, word64_at, index_at, indexed_at, simple_at, head_at, op_at, kind_at, item_at, is_last, own_instrs, rest_at, expression_at, instrs_at}
+use Rattle.binary_grammar.specs.words.Reading.{◌>>=◌, Reader, place, then_at, done_at, of_byte, tagged_at, number_at, byte_at, entries_at, vector_at, limited_at, list_at, run_at, bytes_at, text_at, name_at}
+use Rattle.binary_grammar.specs.words.TypeReading.{value_type_at, tag_at, flag_at, block_type_at, func_type_at, greatest_at, limits_at, table_type_at, global_type_at}
+use Rattle.binary_grammar.specs.words.CodeReading.{word32_at, word64_at, index_at, indexed_at, simple_at, head_at, op_at, kind_at, item_at, is_last, own_instrs, rest_at, expression_at, instrs_at}
 use Rattle.binary_grammar.specs.Grammar.{Spelling}
 use Rattle.binary_grammar.specs.Readings.{Number, Few, Word32, Word64, Utf8, Bytes, ValueType, BlockType, Tag, Flag, Left, local, few_at, opcode_of, kind_accepted, accept, Plan, Complete, Want, andThen}
 use Rattle.binary_grammar.specs.Plans.{one, entries_plan, vector_plan, limited_plan, list_plan, bytes_plan, name_plan, func_type_plan, greatest_plan, limits_plan, table_type_plan, global_type_plan, indexed_plan, two_plan, zero_plan, instr_plan, op_plan, item_plan, rest_plan, expression_plan, instrs_plan}

@@ -11,10 +11,10 @@ use Rattle.binary_grammar.specs.declared.fault.DecodeWord.TheVariants as word
 use Rattle.wasm_values.specs.declared.limit.LimitWord.TheVariants as limit
 use Rattle.binary_grammar.specs.declared.section.Section.TheVariants as section
 use Rattle.binary_grammar.specs.Bounds.{Bounds, copies}
-use Rattle.binary_grammar.specs.Reading.{◌>>=◌, Reader, place, then_at, done_at, of_byte, tagged_at, number_at, byte_at, entries_at, name_at, region_at, ended, sized_at}
-use Rattle.binary_grammar.specs.TypeReading.{value_type_at, import_kind_of, import_kind_at, import_at, export_kind_of, export_kind_at, export_at}
-use Rattle.binary_grammar.specs.CodeReading.{run_of_locals_at, runs_at, locals_at, body_contents_at, body_at}
-use Rattle.binary_grammar.specs.SectionReading.{global_at, elem_at, segment_at, custom_at, bodies_at, types_at, imports_at, funcs_at, tables_at, memories_at, globals_at, exports_at, start_at, elems_at, segments_at, contents_at}
+use Rattle.binary_grammar.specs.words.Reading.{◌>>=◌, Reader, place, then_at, done_at, of_byte, tagged_at, number_at, byte_at, entries_at, name_at, region_at, ended, sized_at}
+use Rattle.binary_grammar.specs.words.TypeReading.{value_type_at, import_kind_of, import_kind_at, import_at, export_kind_of, export_kind_at, export_at}
+use Rattle.binary_grammar.specs.words.CodeReading.{run_of_locals_at, runs_at, locals_at, body_contents_at, body_at}
+use Rattle.binary_grammar.specs.words.SectionReading.{global_at, elem_at, segment_at, custom_at, bodies_at, types_at, imports_at, funcs_at, tables_at, memories_at, globals_at, exports_at, start_at, elems_at, segments_at, contents_at}
 use Rattle.binary_grammar.specs.Readings.{RegionEnd, Number, Count, RunCount, Rest, KindByte, Here, Left, local, count_at, run_count_at, rest_of_region, left_by, accept, Plan, Complete, Want, andThen}
 use Rattle.binary_grammar.specs.Plans.{one, entries_plan, name_plan, sized_plan, imported_plan, import_plan, exported_plan, export_plan, runs_plan, locals_plan, body_plan, global_plan, elem_plan, segment_plan, contents_plan}
 use Rattle.binary_grammar.proofs.ReadingLaws.{run}

@@ -13,8 +13,8 @@ use Rattle.binary_grammar.specs.declared.section.Section.TheVariants as section
 use Rattle.binary_grammar.specs.declared.section.Draft.{Draft}
 use Rattle.binary_grammar.specs.declared.section.Decoded.{Decoded}
 use Rattle.binary_grammar.specs.Bounds.{Bounds}
-use Rattle.binary_grammar.specs.Reading.{◌>>=◌, place, then_at, sized_at}
-use Rattle.binary_grammar.specs.SectionReading.{contents_at, id_at, section_at, with_section, no_sections, sections_at, whole_module, finished_at, header, header_at, module_at}
+use Rattle.binary_grammar.specs.words.Reading.{◌>>=◌, place, then_at, sized_at}
+use Rattle.binary_grammar.specs.words.SectionReading.{contents_at, id_at, section_at, with_section, no_sections, sections_at, whole_module, finished_at, header, header_at, module_at}
 use Rattle.binary_grammar.specs.ModuleGrammar.{given, Rising, AreParts}
 use Rattle.binary_grammar.specs.Readings.{FileEnd, Left, accept, Plan, Complete, Want, andThen, ReadsTo}
 use Rattle.binary_grammar.specs.Plans.{sized_plan, contents_plan, last_behind, declared_behind, sections_plan, functions_of, bodies_of, module_plan, whole_file, ReadsModule, Fault}

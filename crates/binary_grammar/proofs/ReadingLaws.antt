@@ -2,7 +2,7 @@
 use Rattle.std.proofs.Common.{◌≡◌, ◌-◌, ◌≤◌, arith, Bool, true, false, length, List, [], ◌∷◌, Result, Ok, Err, ◌⊎◌, inl, inr, refl, sym, ap, subst, ◌∙◌}
 use Rattle.binary_grammar.specs.declared.fault.DecodeFault.{DecodeFault}
 use Rattle.std.specs.Result.{is_ok}
-use Rattle.binary_grammar.specs.Reading.{◌>>=◌}
+use Rattle.binary_grammar.specs.words.Reading.{◌>>=◌}
 use Rattle.binary_grammar.specs.Readings.{Wanted, Given, Left, accept, Plan, Complete, Want, Item, place_of, Reads, StopsAt}
 
 -- what a plan gives, and what is left then; or the fault at which it stops

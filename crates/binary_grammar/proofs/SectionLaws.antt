@@ -14,9 +14,9 @@ use Rattle.binary_grammar.specs.declared.section.Body.{Body}
 use Rattle.binary_grammar.specs.declared.section.Section.{Section}
 use Rattle.binary_grammar.specs.declared.section.Section.TheVariants as section
 use Rattle.binary_grammar.specs.Bounds.{Bounds}
-use Rattle.binary_grammar.specs.Reading.{◌>>=◌, Reader, place, then_at, done_at, number_at, byte_at, entries_at, vector_at, name_at}
-use Rattle.binary_grammar.specs.CodeReading.{body_at}
-use Rattle.binary_grammar.specs.SectionReading.{global_at, elem_at, segment_at, custom_at, bodies_at, types_at, imports_at, funcs_at, tables_at, memories_at, globals_at, exports_at, start_at, elems_at, segments_at, contents_at, id_at, section_at}
+use Rattle.binary_grammar.specs.words.Reading.{◌>>=◌, Reader, place, then_at, done_at, number_at, byte_at, entries_at, vector_at, name_at}
+use Rattle.binary_grammar.specs.words.CodeReading.{body_at}
+use Rattle.binary_grammar.specs.words.SectionReading.{global_at, elem_at, segment_at, custom_at, bodies_at, types_at, imports_at, funcs_at, tables_at, memories_at, globals_at, exports_at, start_at, elems_at, segments_at, contents_at, id_at, section_at}
 use Rattle.binary_grammar.specs.Grammar.{Spelling, Then, Done, Tagged, SpellsNumber, Many, SpellsVector, SpellsName, SpellsFuncType, SpellsLimits, SpellsTableType, SpellsImport, SpellsExport}
 use Rattle.binary_grammar.specs.CodeGrammar.{OfLength, Sized, SpellsBody, NestsAtMost}
 use Rattle.binary_grammar.specs.ModuleGrammar.{SpellsGlobal, SpellsElem, SpellsSegment, id_of, SpellsContents, SpellsSection, FuncTypeWithin, GlobalWithin, ElemWithin, SegmentWithin}

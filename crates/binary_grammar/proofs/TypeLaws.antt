@@ -18,8 +18,8 @@ use Rattle.binary_grammar.specs.declared.fault.DecodeFault.TheVariants.{Malforme
 use Rattle.binary_grammar.specs.declared.fault.DecodeWord.TheVariants as word
 use Rattle.wasm_values.specs.declared.limit.LimitWord.{LimitWord}
 use Rattle.wasm_values.specs.declared.limit.LimitWord.TheVariants.{Params}
-use Rattle.binary_grammar.specs.Reading.{◌>>=◌, Reader, place, then_at, done_at, number_at, entries_at, vector_at, limited_at, list_at, run_at, bytes_at, text_of, text_at, name_at}
-use Rattle.binary_grammar.specs.TypeReading.{value_type_of, value_type_at, tag_of, tag_at, flag_of, flag_at, block_type_of, block_type_at, func_type_at, greatest_at, limits_at, table_type_at, global_type_at, import_kind_of, import_kind_at, import_at, export_kind_of, export_kind_at, export_at}
+use Rattle.binary_grammar.specs.words.Reading.{◌>>=◌, Reader, place, then_at, done_at, number_at, entries_at, vector_at, limited_at, list_at, run_at, bytes_at, text_of, text_at, name_at}
+use Rattle.binary_grammar.specs.words.TypeReading.{value_type_of, value_type_at, tag_of, tag_at, flag_of, flag_at, block_type_of, block_type_at, func_type_at, greatest_at, limits_at, table_type_at, global_type_at, import_kind_of, import_kind_at, import_at, export_kind_of, export_kind_at, export_at}
 use Rattle.binary_grammar.specs.Grammar.{Spelling, Then, Done, TheByte, SpellsNumber, Many, SpellsVector, SpellsList, Bytes, SpellsBytes, Utf8, SpellsName, SpellsValueType, SpellsBlockType, SpellsFuncType, SpellsFlag, SpellsGreatest, SpellsLimits, SpellsTableType, SpellsGlobalType, import_tag, SpellsImported, SpellsImportKind, SpellsImport, export_tag, export_index, SpellsExportKind, SpellsExport}
 use Rattle.binary_grammar.proofs.NumberLaws.{chosen}
 use Rattle.binary_grammar.proofs.Exact.{Limited, Free, Taken, Exact, Splits, ok, ok_is, bind_ok, place_after, shorter, exact_then, exact_done, free, exact_number, exact_byte, exact_as, exact_tagged, exact_map, exact_entries, exact_vector, exact_list}

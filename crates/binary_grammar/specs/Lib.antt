@@ -1,12 +1,8 @@
 pub mod Numbers
-pub mod NumberReading
 pub mod Bounds
-pub mod Reading
-pub mod TypeReading
-pub mod CodeReading
-pub mod SectionReading
 pub mod Grammar
 pub mod CodeGrammar
 pub mod ModuleGrammar
 pub mod Readings
 pub mod Plans
+pub mod words

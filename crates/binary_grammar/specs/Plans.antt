@@ -31,7 +31,7 @@ use Rattle.wasm_syntax.specs.declared.module.ImportKind.TheVariants as import
 use Rattle.wasm_syntax.specs.declared.module.ExportKind.{ExportKind}
 use Rattle.wasm_syntax.specs.declared.module.ExportKind.TheVariants as export
 use Rattle.binary_grammar.specs.Bounds.{Bounds, copies}
-use Rattle.binary_grammar.specs.CodeReading.{is_last, own_instrs}
+use Rattle.binary_grammar.specs.words.CodeReading.{is_last, own_instrs}
 use Rattle.binary_grammar.specs.ModuleGrammar.{id_of, given, function_section, code_section, AreParts}
 use Rattle.binary_grammar.specs.Readings.{Wanted, Header, Next, FileEnd, Size, RegionEnd, Number, Few, Count, RunCount, Word32, Word64, Utf8, Bytes, Rest, ValueType, BlockType, Tag, Flag, KindByte, Op, Here, Given, Left, Plan, Complete, Want, andThen, ReadsTo, StopsAt}
 

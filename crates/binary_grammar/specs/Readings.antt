@@ -11,10 +11,10 @@ use Rattle.binary_grammar.specs.declared.fault.DecodeFault.TheVariants.{Malforme
 use Rattle.binary_grammar.specs.declared.fault.DecodeWord.TheVariants as word
 use Rattle.wasm_values.specs.declared.limit.LimitWord.{LimitWord}
 use Rattle.wasm_values.specs.declared.limit.LimitWord.TheVariants as limit
-use Rattle.binary_grammar.specs.Reading.{◌>>=◌, Reader, place, number_at, of_byte, run_at, text_at, region_at, ended}
-use Rattle.binary_grammar.specs.TypeReading.{value_type_at, tag_at, flag_at, block_type_at}
-use Rattle.binary_grammar.specs.CodeReading.{word32_at, word64_at}
-use Rattle.binary_grammar.specs.SectionReading.{id_at, header_at}
+use Rattle.binary_grammar.specs.words.Reading.{◌>>=◌, Reader, place, number_at, of_byte, run_at, text_at, region_at, ended}
+use Rattle.binary_grammar.specs.words.TypeReading.{value_type_at, tag_at, flag_at, block_type_at}
+use Rattle.binary_grammar.specs.words.CodeReading.{word32_at, word64_at}
+use Rattle.binary_grammar.specs.words.SectionReading.{id_at, header_at}
 
 -- The kinds of items. A kind also has what decides whether an item of it is accepted: a limit, the last section's id, the
 -- count that is wanted, whether an `else` may come, whether no further block may be opened. `Here` has no bytes: it only

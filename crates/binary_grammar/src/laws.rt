@@ -6,7 +6,7 @@ ghost use Rattle.binary_grammar.specs.declared.fault.DecodeFault.TheVariants as 
 ghost use Rattle.binary_grammar.specs.declared.section.Decoded.{Decoded};
 ghost use Rattle.binary_grammar.specs.declared.section.Section.{Section};
 ghost use Rattle.binary_grammar.specs.Bounds.{the_bounds};
-ghost use Rattle.binary_grammar.specs.SectionReading.{module_at};
+ghost use Rattle.binary_grammar.specs.words.SectionReading.{module_at};
 ghost use Rattle.binary_grammar.specs.ModuleGrammar.{Spells, InLimits, AreParts};
 ghost use Rattle.binary_grammar.specs.Readings.{Item, Wanted, Given, Left, Plan, Want, Reads, ReadsTo, accept};
 ghost use Rattle.binary_grammar.specs.Plans.{ReadsModule, Fault, module_plan, whole_file};

@@ -2,10 +2,13 @@
 
 ghost use Rattle.std.specs.Prelude.{◌≡◌, ◌↔◌, IsTrue};
 ghost use Rattle.std.specs.List.{list_all};
+ghost use Rattle.wasm_syntax.specs.Items.{instr_seen};
 ghost use Rattle.outline_check.specs.First.{IsFirst};
 ghost use Rattle.first_reader.specs.FirstTests.{is_empty_type, is_first_global, is_function, is_first_instr, is_first_item, is_first_func, are_vectors, lacks_other_parts, has_first_parts, is_first};
 
-use wasm_syntax::{Code, Export, ExportKind, Flat, Func, FuncType, Global, Instr, Module, Plain};
+use wasm_syntax::{
+    Code, Export, ExportKind, Func, FuncType, Global, Item, Module, Plain, Seen, Simple,
+};
 use wasm_validate::ValidModule;
 use wasm_values::{Val, ValType};
 
@@ -67,24 +70,24 @@ fn are_functions(exports: &[Export]) -> bool
     exports.iter().all(|export| is_function(export.kind))
 }
 
-fn is_first_instr(instr: &Instr) -> bool
-    ensures { result ≡ is_first_instr instr.now }
+fn is_first_instr(instr: Simple<'_>) -> bool
+    ensures { result ≡ is_first_instr (instr_seen instr.entry) }
 {
     match instr {
-        Instr::Plain(Plain::Nop) => true,
-        Instr::Plain(Plain::Drop) => true,
-        Instr::Const(Val::I32(_)) => true,
-        Instr::GlobalGet(_) => true,
-        Instr::GlobalSet(_) => true,
+        Simple::Plain(Plain::Nop) => true,
+        Simple::Plain(Plain::Drop) => true,
+        Simple::Const(Val::I32(_)) => true,
+        Simple::GlobalGet(_) => true,
+        Simple::GlobalSet(_) => true,
         _ => false,
     }
 }
 
-fn is_first_item(item: &Flat) -> bool
+fn is_first_item(item: &Item) -> bool
     ensures { result ≡ is_first_item item.now }
 {
-    match item {
-        Flat::One(instr) => is_first_instr(instr),
+    match item.seen() {
+        Seen::One(instr) => is_first_instr(instr),
         _ => false,
     }
 }

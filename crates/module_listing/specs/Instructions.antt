@@ -1,26 +1,16 @@
 -- The lines of instructions. The form of the lines is this project's own.
-use Rattle.std.specs.Prelude.{ℕ, ◌/◌, ◌%◌, ◌^◌, List, [], ◌∷◌, ◌++◌, Option, Some, None, codes}
-use Rattle.std.specs.Char.{digit_char}
+use Rattle.std.specs.Prelude.{ℕ, List, [], ◌∷◌, ◌++◌, Option, Some, None, codes}
 use Rattle.std.specs.Fmt.{decimal}
 use Rattle.std.specs.List.{flat_map, zip}
 use Rattle.wasm_values.specs.declared.number.ValType.{ValType}
 use Rattle.wasm_values.specs.declared.number.ValType.TheVariants.{I32, I64}
 use Rattle.wasm_values.specs.declared.number.Val.{Val}
 use Rattle.wasm_values.specs.declared.number.Val.TheVariants as val
+use Rattle.wasm_values.specs.Places.{place_text}
 use Rattle.wasm_syntax.specs.declared.instr.Instr.{Instr, Plain, Num, Const, LocalGet, LocalSet, LocalTee, GlobalGet, GlobalSet, Load, Store, Block', Loop', If', Br, BrIf, BrTable, Call, CallIndirect}
 use Rattle.wasm_syntax.specs.declared.flat.Flat.{Flat}
 use Rattle.wasm_syntax.specs.declared.flat.Flat.TheVariants as item
 use Rattle.module_listing.specs.Names.{instr_name}
-
--- The lowest hexadecimal digit of a number, in lower case.
-abbrev pub hex_digit : ℕ → ℕ
-hex_digit n = digit_char (n % 16)
-
--- A place is `0x` and the eight lowest hexadecimal digits of the byte offset.
-unfoldable pub place_text : ℕ → List ℕ
-place_text at =
-    codes "0x" ++ hex_digit (at / 16 ^ 7) ∷ hex_digit (at / 16 ^ 6) ∷ hex_digit (at / 16 ^ 5) ∷ hex_digit (at / 16 ^ 4)
-    ∷ hex_digit (at / 16 ^ 3) ∷ hex_digit (at / 16 ^ 2) ∷ hex_digit (at / 16) ∷ hex_digit at ∷ []
 
 -- A value type (section 6.4.1).
 abbrev pub value_type_text : ValType → List ℕ

@@ -2,11 +2,12 @@
 
 ghost use Rattle.std.specs.Prelude.{◌≡◌, ◌++◌, ◌∷◌, [], codes, length, OnOk};
 ghost use Rattle.wasm_syntax.specs.FlatForm.{flat_body};
+ghost use Rattle.wasm_syntax.specs.Items.{instr_seen};
 ghost use Rattle.module_listing.specs.Instructions.{value_type_text, block_type_text, const_number, immediates, numbers_text, item_text, item_line, items_text};
 
 use crate::names::write_name;
 use crate::text::{write_number, write_place, write_text};
-use wasm_syntax::{Code, Flat, Instr};
+use wasm_syntax::{Code, Item, Seen, Simple};
 use wasm_values::{Bytes, OutOfMemory, Val, ValType};
 
 /// The name of a value type.
@@ -70,26 +71,25 @@ fn write_labels(out: &mut Bytes, labels: &[u32], last: u32) -> Result<(), OutOfM
     write_one(out, u64::from(last))
 }
 
-fn write_immediates(out: &mut Bytes, instr: &Instr) -> Result<(), OutOfMemory>
-    ensures { OnOk result (out.new ≡ out.old ++ numbers_text (immediates instr.now)) }
+fn write_immediates(out: &mut Bytes, instr: Simple<'_>) -> Result<(), OutOfMemory>
+    ensures { OnOk result (out.new ≡ out.old ++ numbers_text (immediates (instr_seen instr.entry))) }
 {
     match instr {
-        Instr::Plain(_) | Instr::Num(_) => Ok(()),
-        Instr::Block(_, _) | Instr::Loop(_, _) | Instr::If(_, _, _) => Ok(()),
-        Instr::Const(value) => write_one(out, const_number(*value)),
-        Instr::LocalGet(x)
-        | Instr::LocalSet(x)
-        | Instr::LocalTee(x)
-        | Instr::GlobalGet(x)
-        | Instr::GlobalSet(x)
-        | Instr::Br(x)
-        | Instr::BrIf(x)
-        | Instr::Call(x)
-        | Instr::CallIndirect(x) => write_one(out, u64::from(*x)),
-        Instr::Load(_, align, offset) | Instr::Store(_, align, offset) => {
-            write_two(out, *align, *offset)
+        Simple::Plain(_) | Simple::Num(_) => Ok(()),
+        Simple::Const(value) => write_one(out, const_number(value)),
+        Simple::LocalGet(x)
+        | Simple::LocalSet(x)
+        | Simple::LocalTee(x)
+        | Simple::GlobalGet(x)
+        | Simple::GlobalSet(x)
+        | Simple::Br(x)
+        | Simple::BrIf(x)
+        | Simple::Call(x)
+        | Simple::CallIndirect(x) => write_one(out, u64::from(x)),
+        Simple::Load(_, align, offset) | Simple::Store(_, align, offset) => {
+            write_two(out, align, offset)
         }
-        Instr::BrTable(labels, last) => write_labels(out, labels.as_slice(), *last),
+        Simple::BrTable(labels, last) => write_labels(out, labels, last),
     }
 }
 
@@ -102,24 +102,24 @@ fn write_head(out: &mut Bytes, name: &str, ty: Option<ValType>) -> Result<(), Ou
 
 /// Adds the name and the immediates of an item.
 #[tactic(auto, unfolding(crate::specs::Instructions::item_text))]
-pub(crate) fn write_item(out: &mut Bytes, item: &Flat) -> Result<(), OutOfMemory>
+pub(crate) fn write_item(out: &mut Bytes, item: &Item) -> Result<(), OutOfMemory>
     ensures { OnOk result (out.new ≡ out.old ++ item_text item.now) }
 {
-    match item {
-        Flat::One(instr) => {
+    match item.seen() {
+        Seen::One(instr) => {
             write_name(out, instr)?;
             write_immediates(out, instr)
         }
-        Flat::Block(ty) => write_head(out, "block", *ty),
-        Flat::Loop(ty) => write_head(out, "loop", *ty),
-        Flat::If(ty) => write_head(out, "if", *ty),
-        Flat::Else => write_text(out, "else"),
-        Flat::End => write_text(out, "end"),
+        Seen::Block(ty) => write_head(out, "block", ty),
+        Seen::Loop(ty) => write_head(out, "loop", ty),
+        Seen::If(ty) => write_head(out, "if", ty),
+        Seen::Else => write_text(out, "else"),
+        Seen::End => write_text(out, "end"),
     }
 }
 
 #[tactic(auto, unfolding(crate::specs::Instructions::item_line))]
-fn write_line(out: &mut Bytes, at: usize, item: &Flat) -> Result<(), OutOfMemory>
+fn write_line(out: &mut Bytes, at: usize, item: &Item) -> Result<(), OutOfMemory>
     ensures { OnOk result (out.new ≡ out.old ++ item_line at item.now) }
 {
     write_text(out, "  ")?;

@@ -1,10 +1,11 @@
 // The names of instructions.
 
 ghost use Rattle.std.specs.Prelude.{◌≡◌, ◌++◌, OnOk};
+ghost use Rattle.wasm_syntax.specs.Items.{instr_seen};
 ghost use Rattle.module_listing.specs.Names.{plain_name, int_name, num_name, const_name, load_name, store_name, instr_name};
 
 use crate::text::write_text;
-use wasm_syntax::{Instr, LoadOp, Plain, StoreOp};
+use wasm_syntax::{LoadOp, Plain, Simple, StoreOp};
 use wasm_values::{Bytes, IntOp, NumOp, OutOfMemory, Val};
 
 fn plain_name(plain: Plain) -> &'static str
@@ -118,27 +119,24 @@ fn write_num_name(out: &mut Bytes, op: NumOp) -> Result<(), OutOfMemory>
 }
 
 /// Adds the name of an instruction.
-pub(crate) fn write_name(out: &mut Bytes, instr: &Instr) -> Result<(), OutOfMemory>
-    ensures { OnOk result (out.new ≡ out.old ++ instr_name instr.now) }
+pub(crate) fn write_name(out: &mut Bytes, instr: Simple<'_>) -> Result<(), OutOfMemory>
+    ensures { OnOk result (out.new ≡ out.old ++ instr_name (instr_seen instr.entry)) }
 {
     match instr {
-        Instr::Plain(plain) => write_text(out, plain_name(*plain)),
-        Instr::Num(op) => write_num_name(out, *op),
-        Instr::Const(value) => write_text(out, const_name(*value)),
-        Instr::LocalGet(_) => write_text(out, "local.get"),
-        Instr::LocalSet(_) => write_text(out, "local.set"),
-        Instr::LocalTee(_) => write_text(out, "local.tee"),
-        Instr::GlobalGet(_) => write_text(out, "global.get"),
-        Instr::GlobalSet(_) => write_text(out, "global.set"),
-        Instr::Load(op, _, _) => write_text(out, load_name(*op)),
-        Instr::Store(op, _, _) => write_text(out, store_name(*op)),
-        Instr::Block(_, _) => write_text(out, "block"),
-        Instr::Loop(_, _) => write_text(out, "loop"),
-        Instr::If(_, _, _) => write_text(out, "if"),
-        Instr::Br(_) => write_text(out, "br"),
-        Instr::BrIf(_) => write_text(out, "br_if"),
-        Instr::BrTable(_, _) => write_text(out, "br_table"),
-        Instr::Call(_) => write_text(out, "call"),
-        Instr::CallIndirect(_) => write_text(out, "call_indirect"),
+        Simple::Plain(plain) => write_text(out, plain_name(plain)),
+        Simple::Num(op) => write_num_name(out, op),
+        Simple::Const(value) => write_text(out, const_name(value)),
+        Simple::LocalGet(_) => write_text(out, "local.get"),
+        Simple::LocalSet(_) => write_text(out, "local.set"),
+        Simple::LocalTee(_) => write_text(out, "local.tee"),
+        Simple::GlobalGet(_) => write_text(out, "global.get"),
+        Simple::GlobalSet(_) => write_text(out, "global.set"),
+        Simple::Load(op, _, _) => write_text(out, load_name(op)),
+        Simple::Store(op, _, _) => write_text(out, store_name(op)),
+        Simple::Br(_) => write_text(out, "br"),
+        Simple::BrIf(_) => write_text(out, "br_if"),
+        Simple::BrTable(_, _) => write_text(out, "br_table"),
+        Simple::Call(_) => write_text(out, "call"),
+        Simple::CallIndirect(_) => write_text(out, "call_indirect"),
     }
 }

@@ -1,13 +1,12 @@
 // Pieces of lines.
 
-ghost use Rattle.std.specs.Prelude.{◌≡◌, ◌++◌, ◌/◌, ◌<◌, OnOk};
-ghost use Rattle.std.specs.Char.{digit_char};
+ghost use Rattle.std.specs.Prelude.{◌≡◌, ◌++◌, OnOk};
 ghost use Rattle.std.specs.Fmt.{decimal};
-ghost use Rattle.module_listing.specs.Instructions.{hex_digit, place_text};
+ghost use Rattle.wasm_values.specs.Places.{place_text};
 ghost use Rattle.module_listing.specs.Listing.{is_plain, string_byte, quoted};
 
 use itoa::Buffer;
-use wasm_values::{Bytes, OutOfMemory};
+use wasm_values::{Bytes, OutOfMemory, digit_char, place_text};
 
 /// Adds bytes.
 fn write_bytes(out: &mut Bytes, bytes: &[u8]) -> Result<(), OutOfMemory>
@@ -34,39 +33,11 @@ pub(crate) fn write_number(out: &mut Bytes, number: u64) -> Result<(), OutOfMemo
     write_text(out, buffer.format(number))
 }
 
-// The hexadecimal digit of a number below 16.
-fn digit_char(digit: u8) -> u8
-    requires { digit < 16 }
-    ensures { result ≡ digit_char digit }
-{
-    if digit < 10 { b'0' + digit } else { 87 + digit }
-}
-
-// The lowest hexadecimal digit of a number.
-fn hex_digit(number: usize) -> u8
-    ensures { result ≡ hex_digit number }
-{
-    digit_char((number % 16) as u8)
-}
-
-/// Adds a place: `0x` and eight hexadecimal digits.
-#[tactic(auto, unfolding(crate::specs::Instructions::place_text))]
+/// Adds a place.
 pub(crate) fn write_place(out: &mut Bytes, at: usize) -> Result<(), OutOfMemory>
     ensures { OnOk result (out.new ≡ out.old ++ place_text at) }
 {
-    let digits = [
-        b'0',
-        b'x',
-        hex_digit(at / 0x1000_0000),
-        hex_digit(at / 0x100_0000),
-        hex_digit(at / 0x10_0000),
-        hex_digit(at / 0x1_0000),
-        hex_digit(at / 0x1000),
-        hex_digit(at / 0x100),
-        hex_digit(at / 0x10),
-        hex_digit(at),
-    ];
-    write_bytes(out, &digits)
+    write_bytes(out, &place_text(at))
 }
 
 // Whether a byte stands for itself in a string.

@@ -13,7 +13,7 @@ use Rattle.wasm_syntax.specs.declared.module.Func.{Func}
 use Rattle.wasm_syntax.specs.declared.module.Module.{Module}
 use Rattle.wasm_syntax.specs.declared.module.Marks.{Marks}
 use Rattle.wasm_syntax.specs.FlatForm.{is_simple, flat_body}
-use Rattle.wasm_typing.specs.Faults.{Marked}
+use Rattle.wasm_typing.specs.faults.Faults.{Marked}
 use Rattle.outline_check.specs.declared.notes.Formula.{Formula}
 use Rattle.outline_check.specs.declared.notes.Note.{Note}
 use Rattle.outline_check.specs.declared.notes.FuncNotes.{FuncNotes}

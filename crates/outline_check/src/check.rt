@@ -2,7 +2,7 @@ ghost use Rattle.std.specs.Prelude.{◌≡◌, ◌+◌, ◌<◌, ◌^◌, true, 
 ghost use Rattle.std.specs.List.{list_all, AllZip};
 ghost use Rattle.std.specs.Option.{option_copied};
 ghost use Rattle.wasm_syntax.specs.FlatForm.{is_simple};
-ghost use Rattle.wasm_typing.specs.Faults.{Marked};
+ghost use Rattle.wasm_typing.specs.faults.Faults.{Marked};
 ghost use Rattle.outline_check.specs.First.{IsFirst, HasPlaceEach};
 ghost use Rattle.outline_check.specs.Refusals.{HasMemory, test_for, IsSaid, IsAnswer};
 ghost use Rattle.outline_check.specs.Outlines.{notes_of, body_fits, notes_fit, rise_within, instructions, functions_from, initial_outline, module_outline, outline};

@@ -1,4 +1,5 @@
 ghost use Rattle.std.specs.Prelude.{◌≡◌, ◌<◌, ◌∷◌};
+ghost use Rattle.wasm_syntax.specs.Items.{instr_seen};
 ghost use Rattle.outline_check.specs.Refusals.{HasMemory, IsSaid};
 ghost use Rattle.outline_check.specs.States.{made, with_fact, with_global, with_globals, assumed, entered, initial_term, initial_state, with_set, after, nothing};
 
@@ -7,7 +8,7 @@ use crate::notes::Formula;
 use crate::state::{Fact, Stack, State, Term};
 use crate::stop::{Stop, Why};
 use std::alloc;
-use wasm_syntax::{Global, Instr, Plain};
+use wasm_syntax::{Global, Instr, Plain, Simple};
 use wasm_values::{LimitWord, List, Val};
 
 const MAX_VARIABLES: u32 = 1_000_000;
@@ -150,20 +151,20 @@ fn with_set(k: u32, mut state: State) -> State
 }
 
 /// What an instruction does.
-pub fn after(instr: &Instr, mut state: State) -> Result<State, Stop<Why>>
-    ensures { IsSaid result (after instr.now state) }
+pub fn after(instr: Simple<'_>, mut state: State) -> Result<State, Stop<Why>>
+    ensures { IsSaid result (after (instr_seen instr.entry) state) }
 {
     match instr {
-        Instr::Plain(Plain::Drop) => {
+        Simple::Plain(Plain::Drop) => {
             let _top = state.operands.pop();
             Ok(state)
         }
-        Instr::Const(Val::I32(n)) => pushed(Term::Number(i128::from(*n)), state),
-        Instr::GlobalGet(k) => {
-            let term = term_at(state.globals.as_slice(), *k);
+        Simple::Const(Val::I32(n)) => pushed(Term::Number(i128::from(n)), state),
+        Simple::GlobalGet(k) => {
+            let term = term_at(state.globals.as_slice(), k);
             pushed(term, state)
         }
-        Instr::GlobalSet(k) => Ok(with_set(*k, state)),
+        Simple::GlobalSet(k) => Ok(with_set(k, state)),
         _ => Ok(state),
     }
 }

@@ -1,6 +1,7 @@
 ghost use Rattle.std.specs.Prelude.{◌≡◌, length};
 ghost use Rattle.std.specs.Option.{option_copied};
 ghost use Rattle.std.specs.List.{list_all};
+ghost use Rattle.wasm_syntax.specs.Items.{instr_seen};
 ghost use Rattle.outline_check.specs.Refusals.{HasMemory, IsSaid};
 ghost use Rattle.outline_check.specs.Outlines.{in_scope, had, moved, are_facts, entailed, facts_of, stepped, ended};
 
@@ -11,7 +12,7 @@ use crate::notes::{Formula, Move, Note, Step, Use};
 use crate::state::State;
 use crate::stop::{Stop, Why};
 use std::alloc::Global;
-use wasm_syntax::Instr;
+use wasm_syntax::Simple;
 
 fn in_scope(globals: usize, formula: Formula) -> bool
     ensures { result ≡ in_scope globals formula }
@@ -98,10 +99,10 @@ fn facts_of(used: &Use) -> &[u32]
 pub fn stepped(
     alloc: Global,
     note: Option<&Note>,
-    instr: &Instr,
+    instr: Simple<'_>,
     state: State,
 ) -> Result<State, Stop<Why>>
-    ensures { IsSaid result (stepped (option_copied note.entry) instr.now state) }
+    ensures { IsSaid result (stepped (option_copied note.entry) (instr_seen instr.entry) state) }
 {
     match note {
         None => after(instr, state),

@@ -2,6 +2,7 @@ ghost use Rattle.std.specs.Prelude.{◌≡◌, ◌+◌, ◌<◌, true, ◌∷◌
 ghost use Rattle.std.specs.List.{list_all};
 ghost use Rattle.std.specs.Option.{option_copied};
 ghost use Rattle.wasm_syntax.specs.FlatForm.{is_simple, flat_body};
+ghost use Rattle.wasm_syntax.specs.Items.{instr_seen};
 ghost use Rattle.outline_check.specs.Refusals.{IsSaid};
 ghost use Rattle.outline_check.specs.Outlines.{note_at, rise_within, run_from, function_outline};
 ghost use Rattle.outline_check.specs.Cursors.{IsCursor};
@@ -13,15 +14,15 @@ use crate::place::placed;
 use crate::state::State;
 use crate::stop::{Refusal, Stop};
 use std::alloc::Global;
-use wasm_syntax::{Code, Flat, Instr};
+use wasm_syntax::{Code, Seen, Simple};
 
-fn instr_at(code: &Code, i: usize) -> &Instr
+fn instr_at(code: &Code, i: usize) -> Simple<'_>
     requires simple { list_all is_simple code.now ≡ true }
     requires within { i < length code.now }
-    ensures { drop i code.now ≡ result.now ∷ drop (i + 1) code.now }
+    ensures { drop i code.now ≡ instr_seen result ∷ drop (i + 1) code.now }
 {
-    match code.at(i) {
-        Flat::One(instr) => instr,
+    match code.at(i).seen() {
+        Seen::One(instr) => instr,
         _ => unreachable!(),
     }
 }

@@ -9,8 +9,8 @@ use Rattle.binary_grammar.specs.declared.fault.DecodeFault.{DecodeFault}
 use Rattle.binary_grammar.specs.declared.fault.DecodeFault.TheVariants.{Malformed, Limit, OutOfMemory}
 use Rattle.binary_grammar.specs.declared.fault.DecodeWord.TheVariants.{End}
 use Rattle.binary_grammar.specs.Bounds.{copies}
-use Rattle.binary_grammar.specs.Reading.{◌>>=◌, Fails, place}
-use Rattle.binary_grammar.specs.CodeReading.{item_at, is_last, own_instrs, rest_at, expression_at, run_of_locals_at, runs_at}
+use Rattle.binary_grammar.specs.words.Reading.{◌>>=◌, Fails, place}
+use Rattle.binary_grammar.specs.words.CodeReading.{item_at, is_last, own_instrs, rest_at, expression_at, run_of_locals_at, runs_at}
 
 abbrev pub Found : Type 0
 Found = Result ((List Instr × List ℕ) × List ℕ) DecodeFault

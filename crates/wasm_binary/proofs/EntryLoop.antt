@@ -3,7 +3,7 @@ use Rattle.std.proofs.Common.{◌≡◌, ℕ, suc, ◌-◌, ◌+◌, ◌≤◌, 
 use Rattle.std.proofs.lemmas.List.{append-nil}
 use Rattle.binary_grammar.specs.declared.fault.DecodeFault.{DecodeFault}
 use Rattle.binary_grammar.specs.declared.fault.DecodeFault.TheVariants.{Malformed, Limit, OutOfMemory}
-use Rattle.binary_grammar.specs.Reading.{◌>>=◌, Fails, Reader, place, entries_at}
+use Rattle.binary_grammar.specs.words.Reading.{◌>>=◌, Fails, Reader, place, entries_at}
 
 -- what was read before, and what is still read
 abbrev pub with_front : {A : Type 0} → List A → List ℕ → Result ((List A × List ℕ) × List ℕ) DecodeFault → Result ((List A × List ℕ) × List ℕ) DecodeFault

@@ -8,8 +8,8 @@ use Rattle.binary_grammar.specs.declared.section.Body.{Body}
 use Rattle.binary_grammar.specs.declared.section.Draft.{Draft}
 use Rattle.binary_grammar.specs.declared.section.Section.{Section}
 use Rattle.binary_grammar.specs.Bounds.{Bounds}
-use Rattle.binary_grammar.specs.Reading.{Fails}
-use Rattle.binary_grammar.specs.SectionReading.{section_at, with_section, sections_at, funcs_of}
+use Rattle.binary_grammar.specs.words.Reading.{Fails}
+use Rattle.binary_grammar.specs.words.SectionReading.{section_at, with_section, sections_at, funcs_of}
 
 pub goes_on : (most : Bounds) (k m end : ℕ) (d : Draft) (bytes : List ℕ) (s : Section) (after : List ℕ) (total : Result Draft DecodeFault) →
     k ≡ suc m → (length bytes == 0) ≡ false → section_at most d.last (length d.declared) end bytes ≡ Ok (s, after) → sections_at most k d end bytes ≡ total →

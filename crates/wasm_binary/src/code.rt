@@ -1,8 +1,8 @@
 ghost use Rattle.std.specs.Prelude.{◌≡◌, ◌≤◌, ◌-◌, ◌+◌, ◌<◌, ◌++◌, ℕ, List, length, IfOk, OnOk, IsTrue, false};
 ghost use Rattle.wasm_syntax.specs.Parts.{may_turn, then_item, flat_parts};
 ghost use Rattle.binary_grammar.specs.Bounds.{the_bounds, copies};
-ghost use Rattle.binary_grammar.specs.Reading.{Gives, place};
-ghost use Rattle.binary_grammar.specs.CodeReading.{FitsIn, is_last, expression_at, instrs_at, run_of_locals_at, runs_at, locals_at, body_at};
+ghost use Rattle.binary_grammar.specs.words.Reading.{Gives, place};
+ghost use Rattle.binary_grammar.specs.words.CodeReading.{FitsIn, is_last, expression_at, instrs_at, run_of_locals_at, runs_at, locals_at, body_at};
 
 use crate::entries::Entry;
 use crate::instrs::read_item;
@@ -10,7 +10,7 @@ use crate::read::{malformed, place, read_end, read_number, read_region};
 use crate::types::read_value_type;
 use binary_grammar::{Body, DecodeFault, DecodeWord};
 use std::alloc::Global;
-use wasm_syntax::{Code, CodeMaker, Flat, Head, Instr, MAX_ITEMS};
+use wasm_syntax::{Code, CodeMaker, Head, Instr, Item, MAX_ITEMS, Seen};
 use wasm_values::{LimitWord, List, OutOfMemory, ValType};
 
 const MAX_NESTING: usize = 100;
@@ -18,29 +18,31 @@ const MAX_NESTING: usize = 100;
 const MAX_LOCALS: usize = 1_000;
 
 // Whether an item closes an expression with so many open parts, its own among them.
-fn is_last(parts: usize, item: &Flat) -> bool
+#[inline(always)]
+fn is_last(parts: usize, item: &Item) -> bool
     ensures { result ≡ is_last parts item.now }
 {
-    match item {
-        Flat::End => parts <= 1,
+    match item.seen() {
+        Seen::End => parts <= 1,
         _ => false,
     }
 }
 
-fn take_item(maker: &mut CodeMaker, item: Flat) -> Result<(), OutOfMemory>
+#[inline(always)]
+fn take_item(maker: &mut CodeMaker, item: Item) -> Result<(), OutOfMemory>
     requires fits { FitsIn (may_turn maker.old) item }
     requires inner { is_last (length maker.old) item ≡ false }
     requires room { length (flat_parts maker.old) + 1 ≤ MAX_ITEMS }
     ensures taken { OnOk result (maker.new ≡ then_item maker.old item) }
     ensures items { OnOk result (length (flat_parts maker.new) ≤ length (flat_parts maker.old) + 1) }
 {
-    match item {
-        Flat::One(instr) => maker.put(instr),
-        Flat::Block(ty) => maker.begin(Head::Block(ty)),
-        Flat::Loop(ty) => maker.begin(Head::Loop(ty)),
-        Flat::If(ty) => maker.begin(Head::If(ty)),
-        Flat::Else => maker.turn(),
-        Flat::End => maker.end(),
+    match item.seen() {
+        Seen::One(_) => maker.put_item(item),
+        Seen::Block(ty) => maker.begin(Head::Block(ty)),
+        Seen::Loop(ty) => maker.begin(Head::Loop(ty)),
+        Seen::If(ty) => maker.begin(Head::If(ty)),
+        Seen::Else => maker.turn(),
+        Seen::End => maker.end(),
     }
 }
 
@@ -72,7 +74,7 @@ pub(crate) fn read_expression(
 }
 
 /// An expression whose places do not matter.
-#[tactic(auto, unfolding(binary_grammar::specs::CodeReading::instrs_at, binary_grammar::specs::Reading::then_at, binary_grammar::specs::Reading::done_at))]
+#[tactic(auto, unfolding(binary_grammar::specs::words::CodeReading::instrs_at, binary_grammar::specs::words::Reading::then_at, binary_grammar::specs::words::Reading::done_at))]
 pub(crate) fn read_instrs(
     alloc: Global,
     bytes: &[u8],
@@ -95,7 +97,7 @@ fn push_copies(locals: &mut List<ValType>, count: u32, ty: ValType) -> Result<()
     Ok(())
 }
 
-#[tactic(auto, unfolding(binary_grammar::specs::CodeReading::run_of_locals_at, binary_grammar::specs::Reading::then_at, binary_grammar::specs::Reading::done_at))]
+#[tactic(auto, unfolding(binary_grammar::specs::words::CodeReading::run_of_locals_at, binary_grammar::specs::words::Reading::then_at, binary_grammar::specs::words::Reading::done_at))]
 fn read_run_of_locals(
     sum: usize,
     bytes: &[u8],
@@ -136,7 +138,7 @@ fn read_runs(
     Ok((locals, rest))
 }
 
-#[tactic(auto, unfolding(binary_grammar::specs::CodeReading::locals_at, binary_grammar::specs::Reading::then_at, binary_grammar::specs::Reading::done_at))]
+#[tactic(auto, unfolding(binary_grammar::specs::words::CodeReading::locals_at, binary_grammar::specs::words::Reading::then_at, binary_grammar::specs::words::Reading::done_at))]
 fn read_locals(
     alloc: Global,
     bytes: &[u8],
@@ -149,7 +151,7 @@ fn read_locals(
     read_runs(alloc, count, rest, end)
 }
 
-#[tactic(auto, unfolding(binary_grammar::specs::CodeReading::body_at, binary_grammar::specs::CodeReading::body_contents_at, binary_grammar::specs::Reading::sized_at, binary_grammar::specs::Reading::then_at, binary_grammar::specs::Reading::done_at))]
+#[tactic(auto, unfolding(binary_grammar::specs::words::CodeReading::body_at, binary_grammar::specs::words::CodeReading::body_contents_at, binary_grammar::specs::words::Reading::sized_at, binary_grammar::specs::words::Reading::then_at, binary_grammar::specs::words::Reading::done_at))]
 fn read_body(alloc: Global, bytes: &[u8], end: usize) -> Result<(Body, &[u8]), DecodeFault>
     ensures gives { Gives (λ x. (x.0, x.1.now)) result (body_at the_bounds.locals the_bounds.nesting end bytes.now) }
     ensures shorter { IfOk result (λ x. length x.1.now ≤ length bytes.now) }

@@ -5,9 +5,9 @@ ghost use Rattle.binary_grammar.specs.declared.fault.DecodeFault.{DecodeFault};
 ghost use Rattle.binary_grammar.specs.ModuleGrammar.{Spells, InLimits};
 ghost use Rattle.binary_grammar.specs.Plans.{Fault, Refused};
 ghost use Rattle.binary_grammar.specs.Bounds.{the_bounds};
-ghost use Rattle.binary_grammar.specs.Reading.{Gives};
-ghost use Rattle.wasm_binary.specs.Kinds.{is_late};
-ghost use Rattle.binary_grammar.specs.SectionReading.{after_of, with_section, no_sections, sections_at, funcs_of, places_of, finished_at, header, magic_at, header_at, module_at};
+ghost use Rattle.binary_grammar.specs.words.Reading.{Gives};
+ghost use Rattle.wasm_binary.specs.words.Kinds.{is_late};
+ghost use Rattle.binary_grammar.specs.words.SectionReading.{after_of, with_section, no_sections, sections_at, funcs_of, places_of, finished_at, header, magic_at, header_at, module_at};
 
 use crate::read::{malformed, place};
 use crate::sections::read_section;
@@ -222,7 +222,7 @@ fn with_funcs(
 }
 
 /// The module and its marks with the functions of these types and bodies, of bytes of this length.
-#[tactic(auto, unfolding(binary_grammar::specs::SectionReading::finished_at))]
+#[tactic(auto, unfolding(binary_grammar::specs::words::SectionReading::finished_at))]
 fn finish_parts(
     alloc: Global,
     module: Module,
@@ -241,7 +241,7 @@ fn finish_parts(
 }
 
 /// The module behind its last section, of bytes of this length.
-#[tactic(auto, unfolding(binary_grammar::specs::SectionReading::finished_at))]
+#[tactic(auto, unfolding(binary_grammar::specs::words::SectionReading::finished_at))]
 fn finish(alloc: Global, draft: Draft, len: usize) -> Result<Decoded, DecodeFault>
     ensures { Gives (λ d. d) result (finished_at len draft) }
 {
@@ -256,7 +256,7 @@ fn finish(alloc: Global, draft: Draft, len: usize) -> Result<Decoded, DecodeFaul
     finish_parts(alloc, module, marks, declared, bodies, len)
 }
 
-#[tactic(auto, unfolding(binary_grammar::specs::SectionReading::magic_at, binary_grammar::specs::Reading::then_at, binary_grammar::specs::Reading::done_at))]
+#[tactic(auto, unfolding(binary_grammar::specs::words::SectionReading::magic_at, binary_grammar::specs::words::Reading::then_at, binary_grammar::specs::words::Reading::done_at))]
 fn read_magic<'a>(magic: &[u8], bytes: &'a [u8], end: usize) -> Result<&'a [u8], DecodeFault>
     ensures { Gives (λ x. x.now) result (magic_at magic.now end bytes.now) }
 {
@@ -275,7 +275,7 @@ fn read_magic<'a>(magic: &[u8], bytes: &'a [u8], end: usize) -> Result<&'a [u8],
     }
 }
 
-#[tactic(auto, unfolding(binary_grammar::specs::SectionReading::header_at, binary_grammar::specs::Reading::then_at, binary_grammar::specs::Reading::done_at))]
+#[tactic(auto, unfolding(binary_grammar::specs::words::SectionReading::header_at, binary_grammar::specs::words::Reading::then_at, binary_grammar::specs::words::Reading::done_at))]
 fn read_header(bytes: &[u8], end: usize) -> Result<&[u8], DecodeFault>
     ensures { Gives (λ x. x.now) result (header_at end bytes.now) }
 {
@@ -285,7 +285,7 @@ fn read_header(bytes: &[u8], end: usize) -> Result<&[u8], DecodeFault>
     read_magic(&HEADER, bytes, end)
 }
 
-#[tactic(auto, unfolding(binary_grammar::specs::SectionReading::module_at, binary_grammar::specs::Reading::then_at, binary_grammar::specs::Reading::done_at))]
+#[tactic(auto, unfolding(binary_grammar::specs::words::SectionReading::module_at, binary_grammar::specs::words::Reading::then_at, binary_grammar::specs::words::Reading::done_at))]
 fn read_module(alloc: Global, bytes: &[u8]) -> Result<Decoded, DecodeFault>
     ensures { Gives (λ d. d) result (module_at the_bounds bytes.now) }
 {

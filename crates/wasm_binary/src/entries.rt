@@ -1,6 +1,6 @@
 ghost use Rattle.std.specs.Prelude.{◌≡◌, ◌≤◌, ◌-◌, ◌<◌, ℕ, List, length, IfOk};
 ghost use Rattle.wasm_values.specs.declared.limit.LimitWord.{LimitWord};
-ghost use Rattle.binary_grammar.specs.Reading.{Gives, Reader, place, number_at, entries_at, vector_at, limited_at, list_at};
+ghost use Rattle.binary_grammar.specs.words.Reading.{Gives, Reader, place, number_at, entries_at, vector_at, limited_at, list_at};
 
 use crate::read::{place, read_number};
 use binary_grammar::DecodeFault;
@@ -50,7 +50,7 @@ pub(crate) fn read_entries<T: Entry>(
 }
 
 /// A count, so many entries, and the place of each.
-#[tactic(auto, unfolding(binary_grammar::specs::Reading::vector_at, binary_grammar::specs::Reading::then_at, binary_grammar::specs::Reading::done_at))]
+#[tactic(auto, unfolding(binary_grammar::specs::words::Reading::vector_at, binary_grammar::specs::words::Reading::then_at, binary_grammar::specs::words::Reading::done_at))]
 pub(crate) fn read_vector<T: Entry>(
     alloc: Global,
     bytes: &[u8],
@@ -65,7 +65,7 @@ pub(crate) fn read_vector<T: Entry>(
 }
 
 /// The same, where the count has a limit, which is tested before any entry is read.
-#[tactic(auto, unfolding(binary_grammar::specs::Reading::limited_at, binary_grammar::specs::Reading::then_at, binary_grammar::specs::Reading::done_at))]
+#[tactic(auto, unfolding(binary_grammar::specs::words::Reading::limited_at, binary_grammar::specs::words::Reading::then_at, binary_grammar::specs::words::Reading::done_at))]
 pub(crate) fn read_limited<T: Entry>(
     alloc: Global,
     most: u32,
@@ -88,7 +88,7 @@ pub(crate) fn read_limited<T: Entry>(
 }
 
 /// A vector whose places do not matter.
-#[tactic(auto, unfolding(binary_grammar::specs::Reading::list_at, binary_grammar::specs::Reading::then_at, binary_grammar::specs::Reading::done_at))]
+#[tactic(auto, unfolding(binary_grammar::specs::words::Reading::list_at, binary_grammar::specs::words::Reading::then_at, binary_grammar::specs::words::Reading::done_at))]
 pub(crate) fn read_list<T: Entry>(
     alloc: Global,
     bytes: &[u8],

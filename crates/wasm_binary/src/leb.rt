@@ -1,6 +1,6 @@
 ghost use Rattle.std.specs.Prelude.{◌≡◌, ℕ, ◌+◌, ◌-◌, ◌*◌, ◌^◌, ◌<◌, ◌≤◌, List, ◌++◌, length, IfOk, Ok, Err, ℤ, slice_range};
 ghost use Rattle.binary_grammar.specs.Numbers.{twos_complement, SpellsU32, SpellsS32, SpellsS64, EndsInside, ReadsNumber};
-ghost use Rattle.binary_grammar.specs.NumberReading.{GivesNumber, placed, digits_at, u32_at, s32_at, s64_at};
+ghost use Rattle.binary_grammar.specs.words.NumberReading.{GivesNumber, placed, digits_at, u32_at, s32_at, s64_at};
 
 use binary_grammar::LebFault;
 
@@ -16,7 +16,7 @@ struct Digits {
     len: usize,
 }
 
-#[tactic(auto, unfolding(binary_grammar::specs::NumberReading::digits_at))]
+#[tactic(auto, unfolding(binary_grammar::specs::words::NumberReading::digits_at))]
 fn take_digits(bytes: &[u8], most: usize) -> Result<(Digits, &[u8]), LebFault>
     requires { most ≤ 10 }
     ensures exact { GivesNumber (λ x. (x.0.value, x.0.len, x.1.now)) result (digits_at most bytes.now) }
@@ -81,8 +81,9 @@ fn signed(digits: Digits) -> i128
     }
 }
 
-#[tactic(auto, unfolding(binary_grammar::specs::NumberReading::u32_at))]
-pub(crate) fn take_u32(bytes: &[u8]) -> Result<(u32, &[u8]), LebFault>
+#[tactic(auto, unfolding(binary_grammar::specs::words::NumberReading::u32_at))]
+#[inline(never)]
+fn take_long_u32(bytes: &[u8]) -> Result<(u32, &[u8]), LebFault>
     ensures gives { GivesNumber (λ x. (x.0, x.1.now)) result (u32_at bytes.now) }
     ensures shorter { IfOk result (λ x. length x.1.now ≤ length bytes.now) }
 {
@@ -94,8 +95,22 @@ pub(crate) fn take_u32(bytes: &[u8]) -> Result<(u32, &[u8]), LebFault>
     }
 }
 
-#[tactic(auto, unfolding(binary_grammar::specs::NumberReading::s32_at))]
-pub(crate) fn take_s32(bytes: &[u8]) -> Result<(i32, &[u8]), LebFault>
+// A number of one byte takes the short way.
+#[tactic(auto, unfolding(binary_grammar::specs::words::NumberReading::u32_at, binary_grammar::specs::words::NumberReading::digits_at))]
+#[inline(always)]
+pub(crate) fn take_u32(bytes: &[u8]) -> Result<(u32, &[u8]), LebFault>
+    ensures gives { GivesNumber (λ x. (x.0, x.1.now)) result (u32_at bytes.now) }
+    ensures shorter { IfOk result (λ x. length x.1.now ≤ length bytes.now) }
+{
+    match bytes {
+        [byte, rest @ ..] if *byte < 128 => Ok((u32::from(*byte), rest)),
+        _ => take_long_u32(bytes),
+    }
+}
+
+#[tactic(auto, unfolding(binary_grammar::specs::words::NumberReading::s32_at))]
+#[inline(never)]
+fn take_long_s32(bytes: &[u8]) -> Result<(i32, &[u8]), LebFault>
     ensures gives { GivesNumber (λ x. (x.0, x.1.now)) result (s32_at bytes.now) }
     ensures shorter { IfOk result (λ x. length x.1.now ≤ length bytes.now) }
 {
@@ -108,8 +123,22 @@ pub(crate) fn take_s32(bytes: &[u8]) -> Result<(i32, &[u8]), LebFault>
     }
 }
 
-#[tactic(auto, unfolding(binary_grammar::specs::NumberReading::s64_at))]
-pub(crate) fn take_s64(bytes: &[u8]) -> Result<(i64, &[u8]), LebFault>
+// A number of one byte takes the short way.
+#[tactic(auto, unfolding(binary_grammar::specs::words::NumberReading::s32_at, binary_grammar::specs::words::NumberReading::digits_at))]
+#[inline(always)]
+pub(crate) fn take_s32(bytes: &[u8]) -> Result<(i32, &[u8]), LebFault>
+    ensures gives { GivesNumber (λ x. (x.0, x.1.now)) result (s32_at bytes.now) }
+    ensures shorter { IfOk result (λ x. length x.1.now ≤ length bytes.now) }
+{
+    match bytes {
+        [byte, rest @ ..] if *byte < 64 => Ok((i32::from(*byte), rest)),
+        _ => take_long_s32(bytes),
+    }
+}
+
+#[tactic(auto, unfolding(binary_grammar::specs::words::NumberReading::s64_at))]
+#[inline(never)]
+fn take_long_s64(bytes: &[u8]) -> Result<(i64, &[u8]), LebFault>
     ensures gives { GivesNumber (λ x. (x.0, x.1.now)) result (s64_at bytes.now) }
     ensures shorter { IfOk result (λ x. length x.1.now ≤ length bytes.now) }
 {
@@ -119,6 +148,19 @@ pub(crate) fn take_s64(bytes: &[u8]) -> Result<(i64, &[u8]), LebFault>
         Ok((value as i64, rest))
     } else {
         Err(LebFault::Number)
+    }
+}
+
+// A number of one byte takes the short way.
+#[tactic(auto, unfolding(binary_grammar::specs::words::NumberReading::s64_at, binary_grammar::specs::words::NumberReading::digits_at))]
+#[inline(always)]
+pub(crate) fn take_s64(bytes: &[u8]) -> Result<(i64, &[u8]), LebFault>
+    ensures gives { GivesNumber (λ x. (x.0, x.1.now)) result (s64_at bytes.now) }
+    ensures shorter { IfOk result (λ x. length x.1.now ≤ length bytes.now) }
+{
+    match bytes {
+        [byte, rest @ ..] if *byte < 64 => Ok((i64::from(*byte), rest)),
+        _ => take_long_s64(bytes),
     }
 }
 

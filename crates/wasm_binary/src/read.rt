@@ -1,6 +1,6 @@
 ghost use Rattle.std.specs.Prelude.{◌≡◌, ◌≤◌, ◌-◌, ◌^◌, ◌<◌, ℕ, List, length, IfOk};
 ghost use Rattle.std.specs.Prelude.{Ok};
-ghost use Rattle.binary_grammar.specs.Reading.{Gives, Reader, number_fault_of, text_of, place, number_at, byte_at, run_at, bytes_at, name_at, region_at, ended};
+ghost use Rattle.binary_grammar.specs.words.Reading.{Gives, Reader, number_fault_of, text_of, place, number_at, byte_at, run_at, bytes_at, name_at, region_at, ended};
 
 use crate::leb::take_u32;
 use binary_grammar::{DecodeFault, DecodeWord, LebFault};
@@ -8,6 +8,7 @@ use std::alloc::Global;
 use wasm_values::{Bytes, Text};
 
 /// The place of the first byte that is left, in a region that ends at `end`.
+#[inline(always)]
 pub(crate) fn place(bytes: &[u8], end: usize) -> usize
     ensures { result ≡ place end bytes.now }
 {
@@ -31,7 +32,8 @@ pub(crate) fn number_fault(fault: LebFault, at: usize, end: usize) -> DecodeFaul
     }
 }
 
-#[tactic(auto, unfolding(binary_grammar::specs::Reading::number_at, binary_grammar::specs::Reading::then_at, binary_grammar::specs::Reading::done_at))]
+#[tactic(auto, unfolding(binary_grammar::specs::words::Reading::number_at, binary_grammar::specs::words::Reading::then_at, binary_grammar::specs::words::Reading::done_at))]
+#[inline(always)]
 pub(crate) fn read_number(bytes: &[u8], end: usize) -> Result<(u32, &[u8]), DecodeFault>
     ensures gives { Gives (λ x. (x.0, x.1.now)) result (number_at end bytes.now) }
     ensures shorter { IfOk result (λ x. length x.1.now ≤ length bytes.now) }
@@ -42,7 +44,8 @@ pub(crate) fn read_number(bytes: &[u8], end: usize) -> Result<(u32, &[u8]), Deco
     }
 }
 
-#[tactic(auto, unfolding(binary_grammar::specs::Reading::byte_at, binary_grammar::specs::Reading::then_at, binary_grammar::specs::Reading::done_at))]
+#[tactic(auto, unfolding(binary_grammar::specs::words::Reading::byte_at, binary_grammar::specs::words::Reading::then_at, binary_grammar::specs::words::Reading::done_at))]
+#[inline(always)]
 pub(crate) fn read_byte(bytes: &[u8], end: usize) -> Result<(u8, &[u8]), DecodeFault>
     ensures gives { Gives (λ x. (x.0, x.1.now)) result (byte_at end bytes.now) }
     ensures shorter { IfOk result (λ x. length x.1.now ≤ length bytes.now) }
@@ -53,7 +56,7 @@ pub(crate) fn read_byte(bytes: &[u8], end: usize) -> Result<(u8, &[u8]), DecodeF
     }
 }
 
-#[tactic(auto, unfolding(binary_grammar::specs::Reading::run_at, binary_grammar::specs::Reading::then_at, binary_grammar::specs::Reading::done_at))]
+#[tactic(auto, unfolding(binary_grammar::specs::words::Reading::run_at, binary_grammar::specs::words::Reading::then_at, binary_grammar::specs::words::Reading::done_at))]
 fn read_run(count: u32, bytes: &[u8], end: usize) -> Result<(&[u8], &[u8]), DecodeFault>
     ensures gives { Gives (λ x. (x.0.now, x.1.now)) result (run_at count end bytes.now) }
     ensures shorter { IfOk result (λ x. length x.1.now ≤ length bytes.now) }
@@ -75,7 +78,7 @@ pub(crate) fn own_bytes(alloc: Global, bytes: &[u8]) -> Result<Bytes, DecodeFaul
     }
 }
 
-#[tactic(auto, unfolding(binary_grammar::specs::Reading::bytes_at, binary_grammar::specs::Reading::then_at, binary_grammar::specs::Reading::done_at))]
+#[tactic(auto, unfolding(binary_grammar::specs::words::Reading::bytes_at, binary_grammar::specs::words::Reading::then_at, binary_grammar::specs::words::Reading::done_at))]
 pub(crate) fn read_bytes(
     alloc: Global,
     bytes: &[u8],
@@ -99,7 +102,7 @@ fn text_of(alloc: Global, bytes: &[u8], at: usize) -> Result<Text, DecodeFault>
     }
 }
 
-#[tactic(auto, unfolding(binary_grammar::specs::Reading::name_at, binary_grammar::specs::Reading::text_at, binary_grammar::specs::Reading::then_at, binary_grammar::specs::Reading::done_at))]
+#[tactic(auto, unfolding(binary_grammar::specs::words::Reading::name_at, binary_grammar::specs::words::Reading::text_at, binary_grammar::specs::words::Reading::then_at, binary_grammar::specs::words::Reading::done_at))]
 pub(crate) fn read_name(
     alloc: Global,
     bytes: &[u8],
@@ -115,7 +118,7 @@ pub(crate) fn read_name(
 }
 
 /// The bytes of a region, the place where it ends, and what follows it.
-#[tactic(auto, unfolding(binary_grammar::specs::Reading::region_at, binary_grammar::specs::Reading::then_at, binary_grammar::specs::Reading::done_at))]
+#[tactic(auto, unfolding(binary_grammar::specs::words::Reading::region_at, binary_grammar::specs::words::Reading::then_at, binary_grammar::specs::words::Reading::done_at))]
 pub(crate) fn read_region(bytes: &[u8], end: usize) -> Result<(&[u8], usize, &[u8]), DecodeFault>
     ensures gives { Gives (λ x. (x.0.now, x.1, x.2.now)) result (region_at end bytes.now) }
     ensures shorter { IfOk result (λ x. length x.2.now ≤ length bytes.now) }

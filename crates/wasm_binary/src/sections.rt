@@ -1,8 +1,8 @@
 ghost use Rattle.std.specs.Prelude.{◌≡◌, ◌≤◌, ◌-◌, ◌<◌, ◌^◌, ℕ, List, [], length, IfOk};
 ghost use Rattle.binary_grammar.specs.Bounds.{the_bounds};
-ghost use Rattle.binary_grammar.specs.Reading.{Gives, place, entries_at};
-ghost use Rattle.binary_grammar.specs.TypeReading.{table_type_at, limits_at};
-ghost use Rattle.binary_grammar.specs.SectionReading.{global_at, elem_at, segment_at, custom_at, bodies_at, types_at, imports_at, funcs_at, tables_at, memories_at, globals_at, exports_at, start_at, elems_at, segments_at, contents_at, id_at, section_at};
+ghost use Rattle.binary_grammar.specs.words.Reading.{Gives, place, entries_at};
+ghost use Rattle.binary_grammar.specs.words.TypeReading.{table_type_at, limits_at};
+ghost use Rattle.binary_grammar.specs.words.SectionReading.{global_at, elem_at, segment_at, custom_at, bodies_at, types_at, imports_at, funcs_at, tables_at, memories_at, globals_at, exports_at, start_at, elems_at, segments_at, contents_at, id_at, section_at};
 
 use crate::code::read_instrs;
 use crate::entries::{Entry, read_entries, read_limited, read_list, read_vector};
@@ -26,7 +26,7 @@ impl Entry for Limits {
     }
 }
 
-#[tactic(auto, unfolding(binary_grammar::specs::SectionReading::global_at, binary_grammar::specs::Reading::then_at, binary_grammar::specs::Reading::done_at))]
+#[tactic(auto, unfolding(binary_grammar::specs::words::SectionReading::global_at, binary_grammar::specs::words::Reading::then_at, binary_grammar::specs::words::Reading::done_at))]
 fn read_global(
     alloc: Global,
     bytes: &[u8],
@@ -53,7 +53,7 @@ impl Entry for wasm_syntax::Global {
     }
 }
 
-#[tactic(auto, unfolding(binary_grammar::specs::SectionReading::elem_at, binary_grammar::specs::Reading::then_at, binary_grammar::specs::Reading::done_at))]
+#[tactic(auto, unfolding(binary_grammar::specs::words::SectionReading::elem_at, binary_grammar::specs::words::Reading::then_at, binary_grammar::specs::words::Reading::done_at))]
 fn read_elem(alloc: Global, bytes: &[u8], end: usize) -> Result<(Elem, &[u8]), DecodeFault>
     requires { length bytes.now ≤ MAX_ITEMS }
     ensures gives { Gives (λ x. (x.0, x.1.now)) result (elem_at the_bounds.nesting end bytes.now) }
@@ -80,7 +80,7 @@ impl Entry for Elem {
     }
 }
 
-#[tactic(auto, unfolding(binary_grammar::specs::SectionReading::segment_at, binary_grammar::specs::Reading::then_at, binary_grammar::specs::Reading::done_at))]
+#[tactic(auto, unfolding(binary_grammar::specs::words::SectionReading::segment_at, binary_grammar::specs::words::Reading::then_at, binary_grammar::specs::words::Reading::done_at))]
 fn read_segment(alloc: Global, bytes: &[u8], end: usize) -> Result<(Segment, &[u8]), DecodeFault>
     requires { length bytes.now ≤ MAX_ITEMS }
     ensures gives { Gives (λ x. (x.0, x.1.now)) result (segment_at the_bounds.nesting end bytes.now) }
@@ -107,7 +107,7 @@ impl Entry for Segment {
     }
 }
 
-#[tactic(auto, unfolding(binary_grammar::specs::SectionReading::custom_at, binary_grammar::specs::Reading::then_at, binary_grammar::specs::Reading::done_at))]
+#[tactic(auto, unfolding(binary_grammar::specs::words::SectionReading::custom_at, binary_grammar::specs::words::Reading::then_at, binary_grammar::specs::words::Reading::done_at))]
 fn read_custom(alloc: Global, bytes: &[u8], end: usize) -> Result<Section, DecodeFault>
     ensures { Gives (λ s. (s, [])) result (custom_at end bytes.now) }
 {
@@ -115,7 +115,7 @@ fn read_custom(alloc: Global, bytes: &[u8], end: usize) -> Result<Section, Decod
     Ok(Section::Custom(name, own_bytes(alloc, rest)?))
 }
 
-#[tactic(auto, unfolding(binary_grammar::specs::SectionReading::start_at, binary_grammar::specs::Reading::then_at, binary_grammar::specs::Reading::done_at))]
+#[tactic(auto, unfolding(binary_grammar::specs::words::SectionReading::start_at, binary_grammar::specs::words::Reading::then_at, binary_grammar::specs::words::Reading::done_at))]
 fn read_start(bytes: &[u8], end: usize) -> Result<(Section, &[u8]), DecodeFault>
     ensures { Gives (λ x. (x.0, x.1.now)) result (start_at end bytes.now) }
 {
@@ -144,7 +144,7 @@ fn read_table_types(
     Ok((entries, places, rest))
 }
 
-#[tactic(auto, unfolding(binary_grammar::specs::SectionReading::tables_at, binary_grammar::specs::Reading::vector_at, binary_grammar::specs::Reading::then_at, binary_grammar::specs::Reading::done_at))]
+#[tactic(auto, unfolding(binary_grammar::specs::words::SectionReading::tables_at, binary_grammar::specs::words::Reading::vector_at, binary_grammar::specs::words::Reading::then_at, binary_grammar::specs::words::Reading::done_at))]
 fn read_tables(alloc: Global, bytes: &[u8], end: usize) -> Result<(Section, &[u8]), DecodeFault>
     ensures { Gives (λ x. (x.0, x.1.now)) result (tables_at end bytes.now) }
 {
@@ -153,7 +153,7 @@ fn read_tables(alloc: Global, bytes: &[u8], end: usize) -> Result<(Section, &[u8
     Ok((Section::Tables(entries, places), rest))
 }
 
-#[tactic(auto, unfolding(binary_grammar::specs::SectionReading::types_at, binary_grammar::specs::Reading::then_at, binary_grammar::specs::Reading::done_at))]
+#[tactic(auto, unfolding(binary_grammar::specs::words::SectionReading::types_at, binary_grammar::specs::words::Reading::then_at, binary_grammar::specs::words::Reading::done_at))]
 fn read_types(alloc: Global, bytes: &[u8], end: usize) -> Result<(Section, &[u8]), DecodeFault>
     requires { length bytes.now ≤ MAX_ITEMS }
     ensures { Gives (λ x. (x.0, x.1.now)) result (types_at the_bounds end bytes.now) }
@@ -162,7 +162,7 @@ fn read_types(alloc: Global, bytes: &[u8], end: usize) -> Result<(Section, &[u8]
     Ok((Section::Types(entries, places), rest))
 }
 
-#[tactic(auto, unfolding(binary_grammar::specs::SectionReading::imports_at, binary_grammar::specs::Reading::then_at, binary_grammar::specs::Reading::done_at))]
+#[tactic(auto, unfolding(binary_grammar::specs::words::SectionReading::imports_at, binary_grammar::specs::words::Reading::then_at, binary_grammar::specs::words::Reading::done_at))]
 fn read_imports(alloc: Global, bytes: &[u8], end: usize) -> Result<(Section, &[u8]), DecodeFault>
     requires { length bytes.now ≤ MAX_ITEMS }
     ensures { Gives (λ x. (x.0, x.1.now)) result (imports_at the_bounds end bytes.now) }
@@ -171,7 +171,7 @@ fn read_imports(alloc: Global, bytes: &[u8], end: usize) -> Result<(Section, &[u
     Ok((Section::Imports(entries, places), rest))
 }
 
-#[tactic(auto, unfolding(binary_grammar::specs::SectionReading::funcs_at, binary_grammar::specs::Reading::then_at, binary_grammar::specs::Reading::done_at))]
+#[tactic(auto, unfolding(binary_grammar::specs::words::SectionReading::funcs_at, binary_grammar::specs::words::Reading::then_at, binary_grammar::specs::words::Reading::done_at))]
 fn read_funcs(alloc: Global, bytes: &[u8], end: usize) -> Result<(Section, &[u8]), DecodeFault>
     requires { length bytes.now ≤ MAX_ITEMS }
     ensures { Gives (λ x. (x.0, x.1.now)) result (funcs_at the_bounds end bytes.now) }
@@ -186,7 +186,7 @@ fn read_funcs(alloc: Global, bytes: &[u8], end: usize) -> Result<(Section, &[u8]
     Ok((Section::Funcs(entries, places), rest))
 }
 
-#[tactic(auto, unfolding(binary_grammar::specs::SectionReading::memories_at, binary_grammar::specs::Reading::then_at, binary_grammar::specs::Reading::done_at))]
+#[tactic(auto, unfolding(binary_grammar::specs::words::SectionReading::memories_at, binary_grammar::specs::words::Reading::then_at, binary_grammar::specs::words::Reading::done_at))]
 fn read_memories(alloc: Global, bytes: &[u8], end: usize) -> Result<(Section, &[u8]), DecodeFault>
     requires { length bytes.now ≤ MAX_ITEMS }
     ensures { Gives (λ x. (x.0, x.1.now)) result (memories_at end bytes.now) }
@@ -195,7 +195,7 @@ fn read_memories(alloc: Global, bytes: &[u8], end: usize) -> Result<(Section, &[
     Ok((Section::Memories(entries, places), rest))
 }
 
-#[tactic(auto, unfolding(binary_grammar::specs::SectionReading::globals_at, binary_grammar::specs::Reading::then_at, binary_grammar::specs::Reading::done_at))]
+#[tactic(auto, unfolding(binary_grammar::specs::words::SectionReading::globals_at, binary_grammar::specs::words::Reading::then_at, binary_grammar::specs::words::Reading::done_at))]
 fn read_globals(alloc: Global, bytes: &[u8], end: usize) -> Result<(Section, &[u8]), DecodeFault>
     requires { length bytes.now ≤ MAX_ITEMS }
     ensures { Gives (λ x. (x.0, x.1.now)) result (globals_at the_bounds end bytes.now) }
@@ -204,7 +204,7 @@ fn read_globals(alloc: Global, bytes: &[u8], end: usize) -> Result<(Section, &[u
     Ok((Section::Globals(entries, places), rest))
 }
 
-#[tactic(auto, unfolding(binary_grammar::specs::SectionReading::exports_at, binary_grammar::specs::Reading::then_at, binary_grammar::specs::Reading::done_at))]
+#[tactic(auto, unfolding(binary_grammar::specs::words::SectionReading::exports_at, binary_grammar::specs::words::Reading::then_at, binary_grammar::specs::words::Reading::done_at))]
 fn read_exports(alloc: Global, bytes: &[u8], end: usize) -> Result<(Section, &[u8]), DecodeFault>
     requires { length bytes.now ≤ MAX_ITEMS }
     ensures { Gives (λ x. (x.0, x.1.now)) result (exports_at end bytes.now) }
@@ -213,7 +213,7 @@ fn read_exports(alloc: Global, bytes: &[u8], end: usize) -> Result<(Section, &[u
     Ok((Section::Exports(entries, places), rest))
 }
 
-#[tactic(auto, unfolding(binary_grammar::specs::SectionReading::elems_at, binary_grammar::specs::Reading::then_at, binary_grammar::specs::Reading::done_at))]
+#[tactic(auto, unfolding(binary_grammar::specs::words::SectionReading::elems_at, binary_grammar::specs::words::Reading::then_at, binary_grammar::specs::words::Reading::done_at))]
 fn read_elems(alloc: Global, bytes: &[u8], end: usize) -> Result<(Section, &[u8]), DecodeFault>
     requires { length bytes.now ≤ MAX_ITEMS }
     ensures { Gives (λ x. (x.0, x.1.now)) result (elems_at the_bounds end bytes.now) }
@@ -222,7 +222,7 @@ fn read_elems(alloc: Global, bytes: &[u8], end: usize) -> Result<(Section, &[u8]
     Ok((Section::Elems(entries, places), rest))
 }
 
-#[tactic(auto, unfolding(binary_grammar::specs::SectionReading::segments_at, binary_grammar::specs::Reading::then_at, binary_grammar::specs::Reading::done_at))]
+#[tactic(auto, unfolding(binary_grammar::specs::words::SectionReading::segments_at, binary_grammar::specs::words::Reading::then_at, binary_grammar::specs::words::Reading::done_at))]
 fn read_segments(alloc: Global, bytes: &[u8], end: usize) -> Result<(Section, &[u8]), DecodeFault>
     requires { length bytes.now ≤ MAX_ITEMS }
     ensures { Gives (λ x. (x.0, x.1.now)) result (segments_at the_bounds end bytes.now) }
@@ -231,7 +231,7 @@ fn read_segments(alloc: Global, bytes: &[u8], end: usize) -> Result<(Section, &[
     Ok((Section::Segments(entries, places), rest))
 }
 
-#[tactic(auto, unfolding(binary_grammar::specs::SectionReading::bodies_at, binary_grammar::specs::Reading::then_at, binary_grammar::specs::Reading::done_at))]
+#[tactic(auto, unfolding(binary_grammar::specs::words::SectionReading::bodies_at, binary_grammar::specs::words::Reading::then_at, binary_grammar::specs::words::Reading::done_at))]
 fn read_bodies(
     alloc: Global,
     declared: usize,
@@ -250,7 +250,7 @@ fn read_bodies(
 }
 
 /// The contents of the section with an id.
-#[tactic(auto, unfolding(binary_grammar::specs::SectionReading::contents_at, binary_grammar::specs::Reading::then_at, binary_grammar::specs::Reading::done_at))]
+#[tactic(auto, unfolding(binary_grammar::specs::words::SectionReading::contents_at, binary_grammar::specs::words::Reading::then_at, binary_grammar::specs::words::Reading::done_at))]
 fn read_contents(
     alloc: Global,
     declared: usize,
@@ -277,7 +277,7 @@ fn read_contents(
     }
 }
 
-#[tactic(auto, unfolding(binary_grammar::specs::SectionReading::id_at, binary_grammar::specs::Reading::then_at, binary_grammar::specs::Reading::done_at))]
+#[tactic(auto, unfolding(binary_grammar::specs::words::SectionReading::id_at, binary_grammar::specs::words::Reading::then_at, binary_grammar::specs::words::Reading::done_at))]
 fn read_id(last: u8, bytes: &[u8], end: usize) -> Result<(u8, &[u8]), DecodeFault>
     ensures { Gives (λ x. (x.0, x.1.now)) result (id_at last end bytes.now) }
 {
@@ -293,7 +293,7 @@ fn read_id(last: u8, bytes: &[u8], end: usize) -> Result<(u8, &[u8]), DecodeFaul
 
 /// A section, behind sections of which the last that is not custom has the id `last`, and where so many functions are
 /// declared.
-#[tactic(auto, unfolding(binary_grammar::specs::SectionReading::section_at, binary_grammar::specs::Reading::sized_at, binary_grammar::specs::Reading::then_at, binary_grammar::specs::Reading::done_at))]
+#[tactic(auto, unfolding(binary_grammar::specs::words::SectionReading::section_at, binary_grammar::specs::words::Reading::sized_at, binary_grammar::specs::words::Reading::then_at, binary_grammar::specs::words::Reading::done_at))]
 pub(crate) fn read_section(
     alloc: Global,
     last: u8,

@@ -1,7 +1,7 @@
 ghost use Rattle.std.specs.Prelude.{◌≡◌, ◌≤◌, ◌-◌, ◌<◌, ℕ, List, length, IfOk};
 ghost use Rattle.binary_grammar.specs.Bounds.{the_bounds};
-ghost use Rattle.binary_grammar.specs.Reading.{Gives, place};
-ghost use Rattle.binary_grammar.specs.TypeReading.{value_type_of, value_type_at, tag_at, flag_at, block_type_of, block_type_at, func_type_at, greatest_at, limits_at, table_type_at, global_type_at, import_kind_of, import_kind_at, import_at, export_kind_of, export_kind_at, export_at};
+ghost use Rattle.binary_grammar.specs.words.Reading.{Gives, place};
+ghost use Rattle.binary_grammar.specs.words.TypeReading.{value_type_of, value_type_at, tag_at, flag_at, block_type_of, block_type_at, func_type_at, greatest_at, limits_at, table_type_at, global_type_at, import_kind_of, import_kind_at, import_at, export_kind_of, export_kind_at, export_at};
 
 use crate::entries::{Entry, read_limited, read_list};
 use crate::read::{malformed, place, read_byte, read_name, read_number};
@@ -25,7 +25,7 @@ fn value_type(at: usize, byte: u8) -> Result<ValType, DecodeFault>
     }
 }
 
-#[tactic(auto, unfolding(binary_grammar::specs::TypeReading::value_type_at, binary_grammar::specs::Reading::then_at, binary_grammar::specs::Reading::done_at, binary_grammar::specs::Reading::of_byte, binary_grammar::specs::Reading::tagged_at))]
+#[tactic(auto, unfolding(binary_grammar::specs::words::TypeReading::value_type_at, binary_grammar::specs::words::Reading::then_at, binary_grammar::specs::words::Reading::done_at, binary_grammar::specs::words::Reading::of_byte, binary_grammar::specs::words::Reading::tagged_at))]
 pub(crate) fn read_value_type(bytes: &[u8], end: usize) -> Result<(ValType, &[u8]), DecodeFault>
     ensures gives { Gives (λ x. (x.0, x.1.now)) result (value_type_at end bytes.now) }
     ensures shorter { IfOk result (λ x. length x.1.now ≤ length bytes.now) }
@@ -54,7 +54,7 @@ fn block_type(at: usize, byte: u8) -> Result<Option<ValType>, DecodeFault>
     }
 }
 
-#[tactic(auto, unfolding(binary_grammar::specs::TypeReading::block_type_at, binary_grammar::specs::Reading::then_at, binary_grammar::specs::Reading::done_at, binary_grammar::specs::Reading::of_byte, binary_grammar::specs::Reading::tagged_at))]
+#[tactic(auto, unfolding(binary_grammar::specs::words::TypeReading::block_type_at, binary_grammar::specs::words::Reading::then_at, binary_grammar::specs::words::Reading::done_at, binary_grammar::specs::words::Reading::of_byte, binary_grammar::specs::words::Reading::tagged_at))]
 pub(crate) fn read_block_type(
     bytes: &[u8],
     end: usize,
@@ -68,7 +68,7 @@ pub(crate) fn read_block_type(
 }
 
 /// What follows a byte that must be `tag`.
-#[tactic(auto, unfolding(binary_grammar::specs::TypeReading::tag_at, binary_grammar::specs::Reading::then_at, binary_grammar::specs::Reading::done_at, binary_grammar::specs::Reading::of_byte, binary_grammar::specs::Reading::tagged_at))]
+#[tactic(auto, unfolding(binary_grammar::specs::words::TypeReading::tag_at, binary_grammar::specs::words::Reading::then_at, binary_grammar::specs::words::Reading::done_at, binary_grammar::specs::words::Reading::of_byte, binary_grammar::specs::words::Reading::tagged_at))]
 pub(crate) fn read_tag(tag: u8, bytes: &[u8], end: usize) -> Result<(u8, &[u8]), DecodeFault>
     ensures gives { Gives (λ x. (x.0, x.1.now)) result (tag_at tag end bytes.now) }
     ensures shorter { IfOk result (λ x. length x.1.now ≤ length bytes.now) }
@@ -81,7 +81,7 @@ pub(crate) fn read_tag(tag: u8, bytes: &[u8], end: usize) -> Result<(u8, &[u8]),
     }
 }
 
-#[tactic(auto, unfolding(binary_grammar::specs::TypeReading::flag_at, binary_grammar::specs::Reading::then_at, binary_grammar::specs::Reading::done_at, binary_grammar::specs::Reading::of_byte, binary_grammar::specs::Reading::tagged_at))]
+#[tactic(auto, unfolding(binary_grammar::specs::words::TypeReading::flag_at, binary_grammar::specs::words::Reading::then_at, binary_grammar::specs::words::Reading::done_at, binary_grammar::specs::words::Reading::of_byte, binary_grammar::specs::words::Reading::tagged_at))]
 fn read_flag(bytes: &[u8], end: usize) -> Result<(bool, &[u8]), DecodeFault>
     ensures gives { Gives (λ x. (x.0, x.1.now)) result (flag_at end bytes.now) }
     ensures shorter { IfOk result (λ x. length x.1.now ≤ length bytes.now) }
@@ -94,7 +94,7 @@ fn read_flag(bytes: &[u8], end: usize) -> Result<(bool, &[u8]), DecodeFault>
     }
 }
 
-#[tactic(auto, unfolding(binary_grammar::specs::TypeReading::func_type_at, binary_grammar::specs::Reading::then_at, binary_grammar::specs::Reading::done_at, binary_grammar::specs::Reading::of_byte, binary_grammar::specs::Reading::tagged_at))]
+#[tactic(auto, unfolding(binary_grammar::specs::words::TypeReading::func_type_at, binary_grammar::specs::words::Reading::then_at, binary_grammar::specs::words::Reading::done_at, binary_grammar::specs::words::Reading::of_byte, binary_grammar::specs::words::Reading::tagged_at))]
 fn read_func_type(alloc: Global, bytes: &[u8], end: usize) -> Result<(FuncType, &[u8]), DecodeFault>
     requires { length bytes.now ≤ MAX_ITEMS }
     ensures gives { Gives (λ x. (x.0, x.1.now)) result (func_type_at the_bounds.params end bytes.now) }
@@ -114,7 +114,7 @@ impl Entry for FuncType {
     }
 }
 
-#[tactic(auto, unfolding(binary_grammar::specs::Reading::then_at, binary_grammar::specs::Reading::done_at, binary_grammar::specs::Reading::of_byte, binary_grammar::specs::Reading::tagged_at))]
+#[tactic(auto, unfolding(binary_grammar::specs::words::Reading::then_at, binary_grammar::specs::words::Reading::done_at, binary_grammar::specs::words::Reading::of_byte, binary_grammar::specs::words::Reading::tagged_at))]
 fn read_greatest(there: bool, bytes: &[u8], end: usize) -> Result<(Option<u32>, &[u8]), DecodeFault>
     ensures gives { Gives (λ x. (x.0, x.1.now)) result (greatest_at there end bytes.now) }
     ensures shorter { IfOk result (λ x. length x.1.now ≤ length bytes.now) }
@@ -127,7 +127,7 @@ fn read_greatest(there: bool, bytes: &[u8], end: usize) -> Result<(Option<u32>, 
     }
 }
 
-#[tactic(auto, unfolding(binary_grammar::specs::TypeReading::limits_at, binary_grammar::specs::Reading::then_at, binary_grammar::specs::Reading::done_at, binary_grammar::specs::Reading::of_byte, binary_grammar::specs::Reading::tagged_at))]
+#[tactic(auto, unfolding(binary_grammar::specs::words::TypeReading::limits_at, binary_grammar::specs::words::Reading::then_at, binary_grammar::specs::words::Reading::done_at, binary_grammar::specs::words::Reading::of_byte, binary_grammar::specs::words::Reading::tagged_at))]
 pub(crate) fn read_limits(bytes: &[u8], end: usize) -> Result<(Limits, &[u8]), DecodeFault>
     ensures gives { Gives (λ x. (x.0, x.1.now)) result (limits_at end bytes.now) }
     ensures shorter { IfOk result (λ x. length x.1.now ≤ length bytes.now) }
@@ -138,7 +138,7 @@ pub(crate) fn read_limits(bytes: &[u8], end: usize) -> Result<(Limits, &[u8]), D
     Ok((Limits { min, max }, rest))
 }
 
-#[tactic(auto, unfolding(binary_grammar::specs::TypeReading::table_type_at, binary_grammar::specs::Reading::then_at, binary_grammar::specs::Reading::done_at, binary_grammar::specs::Reading::of_byte, binary_grammar::specs::Reading::tagged_at))]
+#[tactic(auto, unfolding(binary_grammar::specs::words::TypeReading::table_type_at, binary_grammar::specs::words::Reading::then_at, binary_grammar::specs::words::Reading::done_at, binary_grammar::specs::words::Reading::of_byte, binary_grammar::specs::words::Reading::tagged_at))]
 pub(crate) fn read_table_type(bytes: &[u8], end: usize) -> Result<(Limits, &[u8]), DecodeFault>
     ensures gives { Gives (λ x. (x.0, x.1.now)) result (table_type_at end bytes.now) }
     ensures shorter { IfOk result (λ x. length x.1.now ≤ length bytes.now) }
@@ -147,7 +147,7 @@ pub(crate) fn read_table_type(bytes: &[u8], end: usize) -> Result<(Limits, &[u8]
     read_limits(rest, end)
 }
 
-#[tactic(auto, unfolding(binary_grammar::specs::TypeReading::global_type_at, binary_grammar::specs::Reading::then_at, binary_grammar::specs::Reading::done_at, binary_grammar::specs::Reading::of_byte, binary_grammar::specs::Reading::tagged_at))]
+#[tactic(auto, unfolding(binary_grammar::specs::words::TypeReading::global_type_at, binary_grammar::specs::words::Reading::then_at, binary_grammar::specs::words::Reading::done_at, binary_grammar::specs::words::Reading::of_byte, binary_grammar::specs::words::Reading::tagged_at))]
 pub(crate) fn read_global_type(bytes: &[u8], end: usize) -> Result<(GlobalType, &[u8]), DecodeFault>
     ensures gives { Gives (λ x. (x.0, x.1.now)) result (global_type_at end bytes.now) }
     ensures shorter { IfOk result (λ x. length x.1.now ≤ length bytes.now) }
@@ -157,7 +157,7 @@ pub(crate) fn read_global_type(bytes: &[u8], end: usize) -> Result<(GlobalType, 
     Ok((GlobalType { value, mutable }, rest))
 }
 
-#[tactic(auto, unfolding(binary_grammar::specs::TypeReading::import_kind_of, binary_grammar::specs::Reading::then_at, binary_grammar::specs::Reading::done_at, binary_grammar::specs::Reading::of_byte, binary_grammar::specs::Reading::tagged_at))]
+#[tactic(auto, unfolding(binary_grammar::specs::words::TypeReading::import_kind_of, binary_grammar::specs::words::Reading::then_at, binary_grammar::specs::words::Reading::done_at, binary_grammar::specs::words::Reading::of_byte, binary_grammar::specs::words::Reading::tagged_at))]
 fn import_kind(
     at: usize,
     byte: u8,
@@ -188,7 +188,7 @@ fn import_kind(
     }
 }
 
-#[tactic(auto, unfolding(binary_grammar::specs::TypeReading::import_kind_at, binary_grammar::specs::Reading::then_at, binary_grammar::specs::Reading::done_at, binary_grammar::specs::Reading::of_byte, binary_grammar::specs::Reading::tagged_at))]
+#[tactic(auto, unfolding(binary_grammar::specs::words::TypeReading::import_kind_at, binary_grammar::specs::words::Reading::then_at, binary_grammar::specs::words::Reading::done_at, binary_grammar::specs::words::Reading::of_byte, binary_grammar::specs::words::Reading::tagged_at))]
 fn read_import_kind(bytes: &[u8], end: usize) -> Result<(ImportKind, &[u8]), DecodeFault>
     ensures gives { Gives (λ x. (x.0, x.1.now)) result (import_kind_at end bytes.now) }
     ensures shorter { IfOk result (λ x. length x.1.now ≤ length bytes.now) }
@@ -197,7 +197,7 @@ fn read_import_kind(bytes: &[u8], end: usize) -> Result<(ImportKind, &[u8]), Dec
     import_kind(place(bytes, end), byte, rest, end)
 }
 
-#[tactic(auto, unfolding(binary_grammar::specs::TypeReading::import_at, binary_grammar::specs::Reading::then_at, binary_grammar::specs::Reading::done_at, binary_grammar::specs::Reading::of_byte, binary_grammar::specs::Reading::tagged_at))]
+#[tactic(auto, unfolding(binary_grammar::specs::words::TypeReading::import_at, binary_grammar::specs::words::Reading::then_at, binary_grammar::specs::words::Reading::done_at, binary_grammar::specs::words::Reading::of_byte, binary_grammar::specs::words::Reading::tagged_at))]
 fn read_import(alloc: Global, bytes: &[u8], end: usize) -> Result<(Import, &[u8]), DecodeFault>
     ensures gives { Gives (λ x. (x.0, x.1.now)) result (import_at end bytes.now) }
     ensures shorter { IfOk result (λ x. length x.1.now ≤ length bytes.now) }
@@ -216,7 +216,7 @@ impl Entry for Import {
     }
 }
 
-#[tactic(auto, unfolding(binary_grammar::specs::TypeReading::export_kind_of, binary_grammar::specs::Reading::then_at, binary_grammar::specs::Reading::done_at, binary_grammar::specs::Reading::of_byte, binary_grammar::specs::Reading::tagged_at))]
+#[tactic(auto, unfolding(binary_grammar::specs::words::TypeReading::export_kind_of, binary_grammar::specs::words::Reading::then_at, binary_grammar::specs::words::Reading::done_at, binary_grammar::specs::words::Reading::of_byte, binary_grammar::specs::words::Reading::tagged_at))]
 fn export_kind(
     at: usize,
     byte: u8,
@@ -247,7 +247,7 @@ fn export_kind(
     }
 }
 
-#[tactic(auto, unfolding(binary_grammar::specs::TypeReading::export_kind_at, binary_grammar::specs::Reading::then_at, binary_grammar::specs::Reading::done_at, binary_grammar::specs::Reading::of_byte, binary_grammar::specs::Reading::tagged_at))]
+#[tactic(auto, unfolding(binary_grammar::specs::words::TypeReading::export_kind_at, binary_grammar::specs::words::Reading::then_at, binary_grammar::specs::words::Reading::done_at, binary_grammar::specs::words::Reading::of_byte, binary_grammar::specs::words::Reading::tagged_at))]
 fn read_export_kind(bytes: &[u8], end: usize) -> Result<(ExportKind, &[u8]), DecodeFault>
     ensures gives { Gives (λ x. (x.0, x.1.now)) result (export_kind_at end bytes.now) }
     ensures shorter { IfOk result (λ x. length x.1.now ≤ length bytes.now) }
@@ -256,7 +256,7 @@ fn read_export_kind(bytes: &[u8], end: usize) -> Result<(ExportKind, &[u8]), Dec
     export_kind(place(bytes, end), byte, rest, end)
 }
 
-#[tactic(auto, unfolding(binary_grammar::specs::TypeReading::export_at, binary_grammar::specs::Reading::then_at, binary_grammar::specs::Reading::done_at, binary_grammar::specs::Reading::of_byte, binary_grammar::specs::Reading::tagged_at))]
+#[tactic(auto, unfolding(binary_grammar::specs::words::TypeReading::export_at, binary_grammar::specs::words::Reading::then_at, binary_grammar::specs::words::Reading::done_at, binary_grammar::specs::words::Reading::of_byte, binary_grammar::specs::words::Reading::tagged_at))]
 fn read_export(alloc: Global, bytes: &[u8], end: usize) -> Result<(Export, &[u8]), DecodeFault>
     ensures gives { Gives (λ x. (x.0, x.1.now)) result (export_at end bytes.now) }
     ensures shorter { IfOk result (λ x. length x.1.now ≤ length bytes.now) }

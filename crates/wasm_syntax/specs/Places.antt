@@ -7,6 +7,7 @@ use Rattle.wasm_syntax.specs.declared.next.Next.TheVariants as next
 use Rattle.wasm_syntax.specs.declared.flat.Flat.{Flat}
 use Rattle.wasm_syntax.specs.declared.flat.Flat.TheVariants.{One, Block, Loop, If, Else, End}
 use Rattle.wasm_syntax.specs.FlatForm.{is_simple, flat_body}
+use Rattle.wasm_syntax.specs.Items.{instr_seen}
 use Rattle.wasm_syntax.specs.Sides.{rest_from}
 use Rattle.wasm_syntax.specs.Trees as tree
 use Rattle.wasm_syntax.specs.Trees.{Instruction, Sequence, Empty, Then, IfElse, sequence_of, instruction_of, instr_from}
@@ -62,7 +63,7 @@ pub record InstructionAt (body : List Instr) (p : ℕ) (i : Instruction) (s : Se
 
 -- What stands at a place, as the item there.
 abbrev pub next_item : Next → Flat
-next_item (next.One i) = One i.now
+next_item (next.One i) = One (instr_seen i)
 next_item (next.Block ty body after) = Block ty
 next_item (next.Loop ty body after) = Loop ty
 next_item (next.If ty first second after) = If ty
@@ -108,7 +109,7 @@ pub record ChoiceAt (body : List Instr) (p : ℕ) (ty : Option ValType) (first s
 
 -- At a place of a body stands this; what is left from there is told by what is left at the places that it names.
 abbrev pub IsNext : List Instr → ℕ → Next → Type 0
-IsNext body p (next.One i) = OneAt body p i.now
+IsNext body p (next.One i) = OneAt body p (instr_seen i)
 IsNext body p (next.Block ty inside after) = PartAt body p (tree.Block ty) inside after
 IsNext body p (next.Loop ty inside after) = PartAt body p (tree.Loop ty) inside after
 IsNext body p (next.If ty first second after) = ChoiceAt body p ty first second after

@@ -1,13 +1,13 @@
-use crate::instr::Instr;
+use crate::seen::Simple;
 use wasm_values::ValType;
 
 /// What stands at a place of code, with the places where its parts begin.
 ///
 /// `after` is the place after the `end` that closes the instruction.
-#[derive(Clone, Copy, Debug)]
+#[derive(Clone, Copy)]
 pub enum Next<'a> {
     /// An instruction without instructions in it. The code goes on at the next place.
-    One(&'a Instr),
+    One(Simple<'a>),
     Block {
         ty: Option<ValType>,
         body: usize,

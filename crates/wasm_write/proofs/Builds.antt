@@ -8,7 +8,7 @@ use Rattle.binary_grammar.specs.declared.section.Section.{Section}
 use Rattle.binary_grammar.specs.declared.section.Section.TheVariants as section
 use Rattle.binary_grammar.specs.declared.section.Draft.{Draft}
 use Rattle.binary_grammar.specs.Grammar.{Spelling, SpellsVector}
-use Rattle.binary_grammar.specs.SectionReading.{with_section}
+use Rattle.binary_grammar.specs.words.SectionReading.{with_section}
 use Rattle.binary_grammar.specs.ModuleGrammar.{id_of, SpellsContents, SpellsSection, InTurn}
 use Rattle.binary_grammar.proofs.Drafts.{InOrder, Counts, MayStand, with_sections}
 use Rattle.wasm_write.specs.Shortest.{number_text}

@@ -19,11 +19,11 @@ use Rattle.binary_grammar.specs.declared.section.Decoded.{Decoded}
 use Rattle.binary_grammar.specs.Bounds.{the_bounds}
 use Rattle.binary_grammar.specs.Grammar.{Each, Many, SpellsNumber, SpellsVector, SpellsFuncType, SpellsImport, SpellsTableType, SpellsLimits, SpellsExport}
 use Rattle.binary_grammar.specs.CodeGrammar.{SpellsBody}
-use Rattle.binary_grammar.specs.SectionReading.{after_of, no_module, no_sections, funcs_of, whole_module, header, module_at}
+use Rattle.binary_grammar.specs.words.SectionReading.{after_of, no_module, no_sections, funcs_of, whole_module, header, module_at}
 use Rattle.binary_grammar.specs.ModuleGrammar.{SpellsGlobal, SpellsElem, SpellsSegment, SpellsContents, FuncWithin, Spells}
 use Rattle.binary_grammar.proofs.Drafts.{with_sections, Drafted}
 use Rattle.binary_grammar.proofs.DraftLaws.{spelled}
-use Rattle.binary_grammar.specs.Reading.{Gives}
+use Rattle.binary_grammar.specs.words.Reading.{Gives}
 use Rattle.binary_grammar.proofs.Exact.{ok}
 use Rattle.binary_grammar.proofs.ModuleLaws.{module_again}
 use Rattle.wasm_write.specs.Shortest.{number_text}

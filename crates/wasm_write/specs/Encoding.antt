@@ -29,7 +29,7 @@ use Rattle.wasm_syntax.specs.declared.kind.Opcode.{Opcode}
 use Rattle.wasm_syntax.specs.declared.kind.Opcode.TheVariants as op
 use Rattle.wasm_syntax.specs.Opcodes.{code_of}
 use Rattle.wasm_syntax.specs.FlatForm.{flat_body}
-use Rattle.binary_grammar.specs.SectionReading.{header}
+use Rattle.binary_grammar.specs.words.SectionReading.{header}
 use Rattle.wasm_write.specs.Shortest.{number_text, signed_text}
 
 -- A vector: a count, and the entries one after another (5.1.3).

@@ -3,7 +3,7 @@ ghost use Rattle.wasm_syntax.specs.declared.module.Marks.{Marks};
 ghost use Rattle.binary_grammar.specs.declared.fault.DecodeFault.{DecodeFault};
 ghost use Rattle.binary_grammar.specs.Bounds.{the_bounds};
 ghost use Rattle.binary_grammar.specs.ModuleGrammar.{Spells};
-ghost use Rattle.binary_grammar.specs.SectionReading.{module_at};
+ghost use Rattle.binary_grammar.specs.words.SectionReading.{module_at};
 ghost use Rattle.wasm_write.specs.Writable.{Writable};
 ghost use Rattle.wasm_write.specs.Encoding.{first_sections, last_sections, encoded};
 

@@ -1,6 +1,8 @@
 ghost use Rattle.std.specs.Prelude.{◌≡◌, ◌++◌, ◌∷◌, [], OnOk};
 ghost use Rattle.wasm_write.specs.Shortest.{number_text};
 ghost use Rattle.wasm_syntax.specs.FlatForm.{flat_of, flat};
+ghost use Rattle.wasm_syntax.specs.declared.flat.Flat.{Flat};
+ghost use Rattle.wasm_syntax.specs.Items.{instr_seen, item_seen};
 ghost use Rattle.wasm_syntax.specs.Opcodes.{code_of};
 ghost use Rattle.wasm_write.specs.Encoding.{plain_opcode, const_opcode, opcode_of, plain_immediates, const_text, immediates, item_text, items_text, expression_text, block_type_code};
 
@@ -8,7 +10,7 @@ use crate::entry::write_vector;
 use crate::number::{write_number, write_word32, write_word64};
 use crate::types::block_type_code;
 use std::alloc::Global;
-use wasm_syntax::{Code, Flat, Instr, Opcode, Plain, byte_of};
+use wasm_syntax::{Code, Instr, Opcode, Plain, Seen, Simple, byte_of};
 use wasm_values::{Bytes, List, OutOfMemory, Val, ValType};
 
 fn plain_opcode(plain: Plain) -> Opcode
@@ -34,28 +36,25 @@ fn const_opcode(value: Val) -> Opcode
     }
 }
 
-fn opcode_of(instr: &Instr) -> Opcode
-    ensures { result ≡ opcode_of instr.now }
+fn opcode_of(instr: Simple<'_>) -> Opcode
+    ensures { result ≡ opcode_of (instr_seen instr.entry) }
 {
     match instr {
-        Instr::Plain(plain) => plain_opcode(*plain),
-        Instr::Num(op) => Opcode::Num(*op),
-        Instr::Const(value) => const_opcode(*value),
-        Instr::LocalGet(_) => Opcode::LocalGet,
-        Instr::LocalSet(_) => Opcode::LocalSet,
-        Instr::LocalTee(_) => Opcode::LocalTee,
-        Instr::GlobalGet(_) => Opcode::GlobalGet,
-        Instr::GlobalSet(_) => Opcode::GlobalSet,
-        Instr::Load(op, _, _) => Opcode::Load(*op),
-        Instr::Store(op, _, _) => Opcode::Store(*op),
-        Instr::Block(_, _) => Opcode::Block,
-        Instr::Loop(_, _) => Opcode::Loop,
-        Instr::If(_, _, _) => Opcode::If,
-        Instr::Br(_) => Opcode::Br,
-        Instr::BrIf(_) => Opcode::BrIf,
-        Instr::BrTable(_, _) => Opcode::BrTable,
-        Instr::Call(_) => Opcode::Call,
-        Instr::CallIndirect(_) => Opcode::CallIndirect,
+        Simple::Plain(plain) => plain_opcode(plain),
+        Simple::Num(op) => Opcode::Num(op),
+        Simple::Const(value) => const_opcode(value),
+        Simple::LocalGet(_) => Opcode::LocalGet,
+        Simple::LocalSet(_) => Opcode::LocalSet,
+        Simple::LocalTee(_) => Opcode::LocalTee,
+        Simple::GlobalGet(_) => Opcode::GlobalGet,
+        Simple::GlobalSet(_) => Opcode::GlobalSet,
+        Simple::Load(op, _, _) => Opcode::Load(op),
+        Simple::Store(op, _, _) => Opcode::Store(op),
+        Simple::Br(_) => Opcode::Br,
+        Simple::BrIf(_) => Opcode::BrIf,
+        Simple::BrTable(_, _) => Opcode::BrTable,
+        Simple::Call(_) => Opcode::Call,
+        Simple::CallIndirect(_) => Opcode::CallIndirect,
     }
 }
 
@@ -84,38 +83,38 @@ fn write_two(out: &mut Bytes, first: u32, second: u32) -> Result<(), OutOfMemory
     write_number(out, u64::from(second))
 }
 
-fn write_immediates(alloc: Global, out: &mut Bytes, instr: &Instr) -> Result<(), OutOfMemory>
-    ensures { OnOk result (out.new ≡ out.old ++ immediates instr.now) }
+fn write_immediates(alloc: Global, out: &mut Bytes, instr: Simple<'_>) -> Result<(), OutOfMemory>
+    ensures { OnOk result (out.new ≡ out.old ++ immediates (instr_seen instr.entry)) }
 {
     match instr {
-        Instr::Plain(plain) => write_plain(out, *plain),
-        Instr::Num(_) | Instr::Block(_, _) | Instr::Loop(_, _) | Instr::If(_, _, _) => Ok(()),
-        Instr::Const(value) => write_const(out, *value),
-        Instr::LocalGet(x)
-        | Instr::LocalSet(x)
-        | Instr::LocalTee(x)
-        | Instr::GlobalGet(x)
-        | Instr::GlobalSet(x)
-        | Instr::Br(x)
-        | Instr::BrIf(x)
-        | Instr::Call(x) => write_number(out, u64::from(*x)),
-        Instr::Load(_, align, offset) | Instr::Store(_, align, offset) => {
-            write_two(out, *align, *offset)
+        Simple::Plain(plain) => write_plain(out, plain),
+        Simple::Num(_) => Ok(()),
+        Simple::Const(value) => write_const(out, value),
+        Simple::LocalGet(x)
+        | Simple::LocalSet(x)
+        | Simple::LocalTee(x)
+        | Simple::GlobalGet(x)
+        | Simple::GlobalSet(x)
+        | Simple::Br(x)
+        | Simple::BrIf(x)
+        | Simple::Call(x) => write_number(out, u64::from(x)),
+        Simple::Load(_, align, offset) | Simple::Store(_, align, offset) => {
+            write_two(out, align, offset)
         }
-        Instr::BrTable(labels, last) => {
-            write_vector(alloc, out, labels.as_slice())?;
-            write_number(out, u64::from(*last))
+        Simple::BrTable(labels, last) => {
+            write_vector(alloc, out, labels)?;
+            write_number(out, u64::from(last))
         }
-        Instr::CallIndirect(ty) => {
-            write_number(out, u64::from(*ty))?;
+        Simple::CallIndirect(ty) => {
+            write_number(out, u64::from(ty))?;
             out.push(0)
         }
     }
 }
 
 #[tactic(auto, unfolding(crate::specs::Encoding::item_text))]
-fn write_one(alloc: Global, out: &mut Bytes, instr: &Instr) -> Result<(), OutOfMemory>
-    ensures { OnOk result (out.new ≡ out.old ++ item_text (Flat.One instr.now)) }
+fn write_one(alloc: Global, out: &mut Bytes, instr: Simple<'_>) -> Result<(), OutOfMemory>
+    ensures { OnOk result (out.new ≡ out.old ++ item_text (Flat.One (instr_seen instr.entry))) }
 {
     out.push(byte_of(opcode_of(instr)))?;
     write_immediates(alloc, out, instr)
@@ -129,16 +128,16 @@ fn write_head(out: &mut Bytes, opcode: Opcode, ty: Option<ValType>) -> Result<()
 }
 
 #[tactic(auto, unfolding(crate::specs::Encoding::item_text))]
-fn write_item(alloc: Global, out: &mut Bytes, item: &Flat) -> Result<(), OutOfMemory>
-    ensures { OnOk result (out.new ≡ out.old ++ item_text item.now) }
+fn write_item(alloc: Global, out: &mut Bytes, item: Seen<'_>) -> Result<(), OutOfMemory>
+    ensures { OnOk result (out.new ≡ out.old ++ item_text (item_seen item.entry)) }
 {
     match item {
-        Flat::One(instr) => write_one(alloc, out, instr),
-        Flat::Block(ty) => write_head(out, Opcode::Block, *ty),
-        Flat::Loop(ty) => write_head(out, Opcode::Loop, *ty),
-        Flat::If(ty) => write_head(out, Opcode::If, *ty),
-        Flat::Else => out.push(byte_of(Opcode::Else)),
-        Flat::End => out.push(byte_of(Opcode::End)),
+        Seen::One(instr) => write_one(alloc, out, instr),
+        Seen::Block(ty) => write_head(out, Opcode::Block, ty),
+        Seen::Loop(ty) => write_head(out, Opcode::Loop, ty),
+        Seen::If(ty) => write_head(out, Opcode::If, ty),
+        Seen::Else => out.push(byte_of(Opcode::Else)),
+        Seen::End => out.push(byte_of(Opcode::End)),
     }
 }
 
@@ -147,7 +146,7 @@ pub(crate) fn write_code(alloc: Global, out: &mut Bytes, code: &Code) -> Result<
     ensures { OnOk result (out.new ≡ out.old ++ expression_text code.now) }
 {
     for i in 0..code.len() {
-        write_item(alloc, out, code.at(i))?;
+        write_item(alloc, out, code.at(i).seen())?;
     }
     Ok(())
 }
@@ -168,28 +167,28 @@ fn write_instr(alloc: Global, out: &mut Bytes, instr: &Instr) -> Result<(), OutO
 {
     match instr {
         Instr::Block(ty, body) => {
-            write_item(alloc, out, &Flat::Block(*ty))?;
+            write_item(alloc, out, Seen::Block(*ty))?;
             write_all(alloc, out, body.as_slice())?;
-            write_item(alloc, out, &Flat::End)
+            write_item(alloc, out, Seen::End)
         }
         Instr::Loop(ty, body) => {
-            write_item(alloc, out, &Flat::Loop(*ty))?;
+            write_item(alloc, out, Seen::Loop(*ty))?;
             write_all(alloc, out, body.as_slice())?;
-            write_item(alloc, out, &Flat::End)
+            write_item(alloc, out, Seen::End)
         }
         Instr::If(ty, first, other) => {
-            write_item(alloc, out, &Flat::If(*ty))?;
+            write_item(alloc, out, Seen::If(*ty))?;
             write_all(alloc, out, first.as_slice())?;
             match other {
-                None => write_item(alloc, out, &Flat::End),
+                None => write_item(alloc, out, Seen::End),
                 Some(other) => {
-                    write_item(alloc, out, &Flat::Else)?;
+                    write_item(alloc, out, Seen::Else)?;
                     write_all(alloc, out, other.as_slice())?;
-                    write_item(alloc, out, &Flat::End)
+                    write_item(alloc, out, Seen::End)
                 }
             }
         }
-        _ => write_one(alloc, out, instr),
+        _ => write_one(alloc, out, instr.simple()),
     }
 }
 
@@ -202,5 +201,5 @@ pub(crate) fn write_expression(
     ensures { OnOk result (out.new ≡ out.old ++ expression_text instrs.now) }
 {
     write_all(alloc, out, instrs.as_slice())?;
-    write_item(alloc, out, &Flat::End)
+    write_item(alloc, out, Seen::End)
 }

@@ -8,7 +8,7 @@ ghost use Rattle.binary_grammar.specs.Numbers.{SpellsU32};
 ghost use Rattle.binary_grammar.specs.CodeGrammar.{SpellsWord32, SpellsWord64, locals_of};
 ghost use Rattle.binary_grammar.specs.Bounds.{the_bounds};
 ghost use Rattle.binary_grammar.specs.ModuleGrammar.{Spells};
-ghost use Rattle.binary_grammar.specs.SectionReading.{module_at};
+ghost use Rattle.binary_grammar.specs.words.SectionReading.{module_at};
 ghost use Rattle.wasm_write.specs.Shortest.{number_text, signed_text};
 ghost use Rattle.wasm_write.specs.Encoding.{runs_of, encoded};
 ghost use Rattle.wasm_write.specs.Writable.{Writable};

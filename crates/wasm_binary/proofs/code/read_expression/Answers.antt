@@ -1,8 +1,8 @@
 use Rattle.std.proofs.Common.{◌≡◌, ◌-◌, ◌+◌, suc, ◌∷◌, [], ◌++◌, length, sym, ◌∙◌, refl, arith, true, false, Ok, nat_lt}
 use Rattle.std.proofs.lemmas.Result.{err_from_is_err_and}
 use Rattle.wasm_syntax.specs.Parts.{may_turn}
-use Rattle.binary_grammar.specs.Reading.{place}
-use Rattle.binary_grammar.specs.CodeReading.{item_at, is_last, expression_at}
+use Rattle.binary_grammar.specs.words.Reading.{place}
+use Rattle.binary_grammar.specs.words.CodeReading.{item_at, is_last, expression_at}
 use Rattle.wasm_binary.proofs.CodeLoop.{goes_on, stops, fails, runs_out, starts, no_items}
 use Rattle.wasm_binary.proofs.code.read_expression.Goals as goal
 

@@ -1,6 +1,6 @@
 use Rattle.std.proofs.Common.{◌≡◌, ◌-◌, ◌≤◌, length}
 use Rattle.wasm_syntax.specs.Parts.{flat_parts}
-use Rattle.binary_grammar.specs.CodeReading.{rest_at, expression_at}
+use Rattle.binary_grammar.specs.words.CodeReading.{rest_at, expression_at}
 use Rattle.wasm_binary.proofs.CodeLoop.{with_places}
 use Rattle.wasm_binary.proofs.code.read_expression.Given as goal
 

@@ -2,7 +2,7 @@ use Rattle.std.proofs.Common.{◌≡◌, ◌-◌, ◌+◌, suc, ◌++◌, ◌≤
 use Rattle.std.proofs.lemmas.Result.{err_from_is_err_and}
 use Rattle.std.proofs.lemmas.List.{length-append}
 use Rattle.binary_grammar.specs.Bounds.{copies}
-use Rattle.binary_grammar.specs.CodeReading.{runs_at}
+use Rattle.binary_grammar.specs.words.CodeReading.{runs_at}
 use Rattle.wasm_binary.proofs.CodeLoop.{goes_on_runs, fails_runs, runs_done, length-copies}
 use Rattle.wasm_binary.proofs.code.read_runs.Goals as goal
 

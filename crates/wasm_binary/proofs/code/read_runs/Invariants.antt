@@ -1,5 +1,5 @@
 use Rattle.std.proofs.Common.{◌≡◌, ◌-◌, ◌≤◌, length}
-use Rattle.binary_grammar.specs.CodeReading.{runs_at}
+use Rattle.binary_grammar.specs.words.CodeReading.{runs_at}
 use Rattle.wasm_binary.proofs.CodeLoop.{with_locals}
 use Rattle.wasm_binary.proofs.code.read_runs.Given as goal
 

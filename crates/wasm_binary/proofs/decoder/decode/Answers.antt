@@ -3,8 +3,8 @@ use Rattle.binary_grammar.specs.declared.fault.DecodeFault.{DecodeFault}
 use Rattle.binary_grammar.specs.declared.section.Decoded.{Decoded}
 use Rattle.std.specs.Prelude.{IfOk, IfErr}
 use Rattle.binary_grammar.specs.Bounds.{the_bounds}
-use Rattle.binary_grammar.specs.Reading.{Gives}
-use Rattle.binary_grammar.specs.SectionReading.{module_at}
+use Rattle.binary_grammar.specs.words.Reading.{Gives}
+use Rattle.binary_grammar.specs.words.SectionReading.{module_at}
 use Rattle.binary_grammar.specs.ModuleGrammar.{Spells, InLimits}
 use Rattle.binary_grammar.specs.declared.fault.DecodeFault.TheVariants.{Malformed, Limit, OutOfMemory}
 use Rattle.binary_grammar.specs.Plans.{Refused}

@@ -1,5 +1,5 @@
 use Rattle.std.proofs.Common.{◌≡◌, length, take}
-use Rattle.binary_grammar.specs.SectionReading.{funcs_of, places_of}
+use Rattle.binary_grammar.specs.words.SectionReading.{funcs_of, places_of}
 use Rattle.wasm_binary.proofs.decoder.join_funcs.Given as goal
 
 abbrev pub invariant-loop-body : goal.invariant-loop-body

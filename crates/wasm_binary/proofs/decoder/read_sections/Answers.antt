@@ -1,7 +1,7 @@
 use Rattle.std.proofs.Common.{◌≡◌, ◌-◌, ◌+◌, suc, length, sym, ◌∙◌, arith}
 use Rattle.std.proofs.lemmas.Result.{err_from_is_err_and}
 use Rattle.binary_grammar.specs.Bounds.{the_bounds}
-use Rattle.binary_grammar.specs.SectionReading.{sections_at}
+use Rattle.binary_grammar.specs.words.SectionReading.{sections_at}
 use Rattle.wasm_binary.proofs.SectionLoop.{goes_on, fails, runs_out, is_done}
 use Rattle.wasm_binary.proofs.decoder.read_sections.Goals as goal
 

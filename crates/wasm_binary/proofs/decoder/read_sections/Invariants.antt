@@ -1,6 +1,6 @@
 use Rattle.std.proofs.Common.{◌≡◌, ◌-◌, length}
 use Rattle.binary_grammar.specs.Bounds.{the_bounds}
-use Rattle.binary_grammar.specs.SectionReading.{sections_at}
+use Rattle.binary_grammar.specs.words.SectionReading.{sections_at}
 use Rattle.wasm_binary.proofs.decoder.read_sections.Given as goal
 
 abbrev pub invariant-loop : goal.invariant-loop

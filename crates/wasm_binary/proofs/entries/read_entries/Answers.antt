@@ -1,6 +1,6 @@
 use Rattle.std.proofs.Common.{◌≡◌, ◌++◌, ◌∷◌, [], arith}
 use Rattle.std.proofs.lemmas.Result.{err_from_is_err_and}
-use Rattle.binary_grammar.specs.Reading.{entries_at, place}
+use Rattle.binary_grammar.specs.words.Reading.{entries_at, place}
 use Rattle.wasm_binary.proofs.EntryLoop.{goes_on, ends, is_done}
 use Rattle.wasm_binary.proofs.entries.read_entries.Goals as goal
 

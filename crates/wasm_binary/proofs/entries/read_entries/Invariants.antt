@@ -1,5 +1,5 @@
 use Rattle.std.proofs.Common.{◌≡◌, ◌-◌, ◌≤◌, length}
-use Rattle.binary_grammar.specs.Reading.{entries_at}
+use Rattle.binary_grammar.specs.words.Reading.{entries_at}
 use Rattle.wasm_binary.proofs.EntryLoop.{with_front}
 use Rattle.wasm_binary.proofs.entries.read_entries.Given as goal
 

@@ -1,7 +1,7 @@
 use Rattle.std.proofs.Common.{◌≡◌, ◌-◌, length, slice_range, drop, arith}
 use Rattle.std.proofs.lemmas.List.{length-take, length-drop}
 use Rattle.binary_grammar.specs.Numbers.{SpellsS32}
-use Rattle.binary_grammar.specs.NumberReading.{s32_at}
+use Rattle.binary_grammar.specs.words.NumberReading.{s32_at}
 use Rattle.binary_grammar.proofs.NumberLaws.{reads_placed, spelled_placed, ends_placed, reads_s32}
 use Rattle.wasm_binary.proofs.leb.read_s32.Goals as goal
 

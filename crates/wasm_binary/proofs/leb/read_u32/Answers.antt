@@ -1,7 +1,7 @@
 use Rattle.std.proofs.Common.{◌≡◌, ◌-◌, length, slice_range, drop, arith}
 use Rattle.std.proofs.lemmas.List.{length-take, length-drop}
 use Rattle.binary_grammar.specs.Numbers.{SpellsU32}
-use Rattle.binary_grammar.specs.NumberReading.{u32_at}
+use Rattle.binary_grammar.specs.words.NumberReading.{u32_at}
 use Rattle.binary_grammar.proofs.NumberLaws.{reads_placed, spelled_placed, ends_placed, reads_u32}
 use Rattle.wasm_binary.proofs.leb.read_u32.Goals as goal
 

@@ -3,7 +3,7 @@ use Rattle.std.specs.Str.{IsUtf8, is_utf8}
 use Rattle.std.proofs.lemmas.Str.{IsUtf8-from_is_utf8, is_utf8-from_IsUtf8}
 use Rattle.binary_grammar.specs.declared.fault.DecodeFault.TheVariants.{Malformed}
 use Rattle.binary_grammar.specs.declared.fault.DecodeWord.TheVariants.{Utf8}
-use Rattle.binary_grammar.specs.Reading.{text_of}
+use Rattle.binary_grammar.specs.words.Reading.{text_of}
 use Rattle.wasm_binary.proofs.read.text_of.Goals as goal
 
 is_text : (bs t : List ℕ) (at : ℕ) → IsUtf8 bs → t ≡ bs → text_of bs at ≡ Ok t

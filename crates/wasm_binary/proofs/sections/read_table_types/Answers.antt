@@ -1,7 +1,7 @@
 use Rattle.std.proofs.Common.{◌≡◌, ◌++◌, ◌∷◌, []}
 use Rattle.std.proofs.lemmas.Result.{err_from_is_err_and}
-use Rattle.binary_grammar.specs.Reading.{entries_at, place}
-use Rattle.binary_grammar.specs.TypeReading.{table_type_at}
+use Rattle.binary_grammar.specs.words.Reading.{entries_at, place}
+use Rattle.binary_grammar.specs.words.TypeReading.{table_type_at}
 use Rattle.wasm_binary.proofs.EntryLoop.{goes_on, ends, is_done}
 use Rattle.wasm_binary.proofs.sections.read_table_types.Goals as goal
 

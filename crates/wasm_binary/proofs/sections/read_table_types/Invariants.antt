@@ -1,6 +1,6 @@
 use Rattle.std.proofs.Common.{◌≡◌, ◌-◌}
-use Rattle.binary_grammar.specs.Reading.{entries_at}
-use Rattle.binary_grammar.specs.TypeReading.{table_type_at}
+use Rattle.binary_grammar.specs.words.Reading.{entries_at}
+use Rattle.binary_grammar.specs.words.TypeReading.{table_type_at}
 use Rattle.wasm_binary.proofs.EntryLoop.{with_front}
 use Rattle.wasm_binary.proofs.sections.read_table_types.Given as goal
 

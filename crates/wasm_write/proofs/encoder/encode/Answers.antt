@@ -1,7 +1,7 @@
 use Rattle.std.proofs.Common.{ℕ, List, sym, ap, subst, ◌∙◌}
 use Rattle.binary_grammar.specs.Bounds.{the_bounds}
 use Rattle.binary_grammar.specs.ModuleGrammar.{Spells}
-use Rattle.binary_grammar.specs.SectionReading.{module_at}
+use Rattle.binary_grammar.specs.words.SectionReading.{module_at}
 use Rattle.wasm_write.proofs.ModuleTexts.{spells_encoded, reads_encoded}
 use Rattle.wasm_write.proofs.encoder.encode.Goals as goal
 

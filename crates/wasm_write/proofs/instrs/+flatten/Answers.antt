@@ -50,5 +50,5 @@ pub write_instr-returns-in_default : goal.write_instr-returns-in_default
 write_instr-returns-in_default t c =
     let simple = is_simple-other c.args.instr.now c.in_default.not-Block c.in_default.not-Loop c.in_default.not-If in
     on_ok_weaker c.write_one.result
-    (λ e. e ∙ ap (λ bs. c.args.out.now ++ bs) (sym (ap items_text (flat_of-simple c.args.instr.now simple) ∙ append-nil (item_text (One c.args.instr.now)))))
+    (λ e. e ∙ ap (λ i. c.args.out.now ++ item_text (One i)) c.simple.ensures ∙ ap (λ bs. c.args.out.now ++ bs) (sym (ap items_text (flat_of-simple c.args.instr.now simple) ∙ append-nil (item_text (One c.args.instr.now)))))
     c.write_one.ensures

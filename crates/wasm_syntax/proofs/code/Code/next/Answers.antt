@@ -5,18 +5,18 @@ use Rattle.wasm_syntax.proofs.NextLaws.{OneAt-item, PartAt-Block, PartAt-Loop, r
 use Rattle.wasm_syntax.proofs.code.Code.next.Goals as goal
 
 pub returns-in-One-clause-next : goal.returns-in-One-clause-next
-returns-in-One-clause-next c = OneAt-item _ _ _ (c.at.ensures.item ∙ ap Some c.in-One.is)
+returns-in-One-clause-next c = OneAt-item _ _ _ (c.at.ensures.item ∙ ap Some c.in-One.ensures)
 
 pub returns-in-Block-clause-next : goal.returns-in-Block-clause-next
-returns-in-Block-clause-next c = PartAt-Block _ _ _ _ (c.at.ensures.item ∙ ap Some c.in-Block.is) c.end_of.ensures.closes
+returns-in-Block-clause-next c = PartAt-Block _ _ _ _ (c.at.ensures.item ∙ ap Some c.in-Block.ensures) c.end_of.ensures.closes
 
 pub returns-in-Loop-clause-next : goal.returns-in-Loop-clause-next
-returns-in-Loop-clause-next c = PartAt-Loop _ _ _ _ (c.at.ensures.item ∙ ap Some c.in-Loop.is) c.end_of-in-Loop.ensures.closes
+returns-in-Loop-clause-next c = PartAt-Loop _ _ _ _ (c.at.ensures.item ∙ ap Some c.in-Loop.ensures) c.end_of-in-Loop.ensures.closes
 
 pub returns-in-Else-clause-next : goal.returns-in-Else-clause-next
 returns-in-Else-clause-next c =
-    let item = c.at.ensures.item ∙ ap Some c.in-Else.is in
+    let item = c.at.ensures.item ∙ ap Some c.in-Else.ensures in
     (rest_at-Else c.args.self.now c.args.position item, next_within c.args.self.now c.args.position Else item (λ e. cc))
 
 pub returns-in-End-clause-next : goal.returns-in-End-clause-next
-returns-in-End-clause-next c = rest_at-End c.args.self.now c.args.position (c.at.ensures.item ∙ ap Some c.in-End.is)
+returns-in-End-clause-next c = rest_at-End c.args.self.now c.args.position (c.at.ensures.item ∙ ap Some c.in-End.ensures)

@@ -15,7 +15,7 @@ use Rattle.binary_grammar.specs.declared.fault.DecodeFault.{DecodeFault}
 use Rattle.binary_grammar.specs.declared.fault.DecodeFault.TheVariants.{Malformed}
 use Rattle.binary_grammar.specs.declared.fault.DecodeWord.TheVariants.{Byte, Float}
 use Rattle.wasm_values.specs.declared.limit.LimitWord.TheVariants.{Params}
-use Rattle.binary_grammar.specs.Reading.{◌>>=◌, Reader, then_at, done_at, of_byte, tagged_at, number_at, name_at, list_at, limited_at}
+use Rattle.binary_grammar.specs.words.Reading.{◌>>=◌, Reader, then_at, done_at, of_byte, tagged_at, number_at, name_at, list_at, limited_at}
 
 -- The value type that a byte at a place is; that of a floating-point type has a fault of its own (5.3.1).
 abbrev pub value_type_of : ℕ → ℕ → Result ValType DecodeFault

@@ -16,9 +16,9 @@ use Rattle.binary_grammar.specs.declared.section.Section.TheVariants as section
 use Rattle.binary_grammar.specs.declared.section.Draft.{Draft}
 use Rattle.binary_grammar.specs.declared.section.Decoded.{Decoded}
 use Rattle.binary_grammar.specs.Bounds.{Bounds}
-use Rattle.binary_grammar.specs.Reading.{◌>>=◌, Reader, place, then_at, done_at, byte_at, number_at, entries_at, vector_at, limited_at, list_at, bytes_at, name_at, sized_at}
-use Rattle.binary_grammar.specs.TypeReading.{func_type_at, limits_at, table_type_at, global_type_at, import_at, export_at}
-use Rattle.binary_grammar.specs.CodeReading.{instrs_at, body_at}
+use Rattle.binary_grammar.specs.words.Reading.{◌>>=◌, Reader, place, then_at, done_at, byte_at, number_at, entries_at, vector_at, limited_at, list_at, bytes_at, name_at, sized_at}
+use Rattle.binary_grammar.specs.words.TypeReading.{func_type_at, limits_at, table_type_at, global_type_at, import_at, export_at}
+use Rattle.binary_grammar.specs.words.CodeReading.{instrs_at, body_at}
 
 -- A global (5.5.9). Of its expression at most so many blocks are open at once.
 unfoldable pub global_at : ℕ → Reader Global

@@ -19,10 +19,10 @@ use Rattle.binary_grammar.specs.declared.fault.DecodeFault.TheVariants.{Malforme
 use Rattle.binary_grammar.specs.declared.fault.DecodeWord.TheVariants as word
 use Rattle.wasm_values.specs.declared.limit.LimitWord.TheVariants.{Nesting, Locals}
 use Rattle.binary_grammar.specs.declared.section.Body.{Body}
-use Rattle.binary_grammar.specs.NumberReading.{s32_at, s64_at}
-use Rattle.binary_grammar.specs.Reading.{◌>>=◌, Reader, place, then_at, done_at, tagged_at, of_number, number_at, list_at, sized_at}
+use Rattle.binary_grammar.specs.words.NumberReading.{s32_at, s64_at}
+use Rattle.binary_grammar.specs.words.Reading.{◌>>=◌, Reader, place, then_at, done_at, tagged_at, of_number, number_at, list_at, sized_at}
 use Rattle.binary_grammar.specs.Bounds.{copies}
-use Rattle.binary_grammar.specs.TypeReading.{tag_at, value_type_at, block_type_at}
+use Rattle.binary_grammar.specs.words.TypeReading.{tag_at, value_type_at, block_type_at}
 
 -- A constant of 32 bits: the number that an s32 stands for (5.2.2).
 unfoldable pub word32_at : Reader ℕ
@@ -82,6 +82,10 @@ simple_at at I32Const end bytes = then_at word32_at (λ n. done_at (instr.Const 
 simple_at at I64Const end bytes = then_at word64_at (λ n. done_at (instr.Const (val.I64 n))) end bytes
 simple_at at op end bytes = indexed_at at op end bytes
 
+-- The item of an instruction that is read.
+abbrev pub as_items : Reader Instr → Reader Flat
+as_items r = then_at r (λ i. done_at (item.One i))
+
 -- The block type of a block, loop or if, unless too many blocks are open.
 unfoldable pub head_at : Bool → ℕ → Reader (Option ValType)
 head_at true at end bytes = Err (Limit at Nesting)
@@ -95,7 +99,7 @@ op_at turn full at If end bytes = then_at (head_at full at) (λ t. done_at (item
 op_at true full at Else end bytes = Ok (item.Else, bytes)
 op_at false full at Else end bytes = Err (Malformed at word.Byte)
 op_at turn full at End end bytes = Ok (item.End, bytes)
-op_at turn full at op end bytes = then_at (simple_at at op) (λ i. done_at (item.One i)) end bytes
+op_at turn full at op end bytes = as_items (simple_at at op) end bytes
 
 -- The rest of an item, by what its first byte means. A byte of floating-point instructions is a fault, and so is one of
 -- none.

@@ -8,7 +8,7 @@ use Rattle.binary_grammar.specs.declared.fault.DecodeFault.TheVariants.{Malforme
 use Rattle.binary_grammar.specs.declared.fault.DecodeWord.TheVariants.{End, Size, Number, Utf8}
 use Rattle.wasm_values.specs.declared.limit.LimitWord.{LimitWord}
 use Rattle.std.specs.Str.{is_utf8}
-use Rattle.binary_grammar.specs.NumberReading.{u32_at}
+use Rattle.binary_grammar.specs.words.NumberReading.{u32_at}
 
 -- What comes after a success; a fault stands.
 infixl 10 ◌>>=◌
