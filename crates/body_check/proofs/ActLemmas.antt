@@ -20,9 +20,10 @@ use Rattle.wasm_typing.specs.declared.fault.ValidWord.{ValidWord}
 use Rattle.wasm_typing.specs.declared.fault.ValidWord.TheVariants as word
 use Rattle.wasm_syntax.specs.Accesses.{bytes_loaded, bytes_stored, loaded_type, stored_type}
 use Rattle.wasm_typing.specs.Typing.{Types, Context, Turns, PlainTyped, InstructionTyped}
-use Rattle.wasm_typing.specs.Faults.{Condition, condition, first_failing, conditions, plain_conditions, is_mutable, is_same_type, same_types, is_label_of, are_targets}
-use Rattle.body_check.specs.Operands.{IsStuck, Goes, Took}
-use Rattle.body_check.specs.Steps.{IsReady, Acts, word_of}
+use Rattle.wasm_typing.specs.faults.Faults.{Condition, condition, first_failing, conditions, plain_conditions, is_mutable, is_label_of, are_targets}
+use Rattle.wasm_values.specs.Types.{is_same_type, are_same_types}
+use Rattle.body_check.specs.words.Operands.{IsStuck, Goes, Took}
+use Rattle.body_check.specs.words.Steps.{IsReady, Acts, word_of}
 
 pub aligned_far : (a w : ℕ) → 3 < a → w ≤ 8 → nat_le a 3 ≡ nat_le (2 ^ a) w
 aligned_far a w h small = let big = sixteen a h in grind (arith, h, small, big)
@@ -149,18 +150,18 @@ and_both : (a b : Bool) → a ≡ true → b ≡ true → (a && b) ≡ true
 and_both true b e f = f
 and_both false b e f = cc
 
-same_types_to : (ss ts : Types) → same_types ss ts ≡ true → ss ≡ ts
+same_types_to : (ss ts : Types) → are_same_types ss ts ≡ true → ss ≡ ts
 same_types_to [] [] e = refl
 same_types_to [] (t ∷ ts) e = cc
 same_types_to (s ∷ ss) [] e = cc
 same_types_to (s ∷ ss) (t ∷ ts) e =
-    let a = same_type_to s t (and_first (is_same_type s t) (same_types ss ts) e) in
-    let b = same_types_to ss ts (and_second (is_same_type s t) (same_types ss ts) e) in
+    let a = same_type_to s t (and_first (is_same_type s t) (are_same_types ss ts) e) in
+    let b = same_types_to ss ts (and_second (is_same_type s t) (are_same_types ss ts) e) in
     ap (λ x. x ∷ ss) a ∙ ap (λ xs. t ∷ xs) b
 
-same_types_self : (ts : Types) → same_types ts ts ≡ true
+same_types_self : (ts : Types) → are_same_types ts ts ≡ true
 same_types_self [] = refl
-same_types_self (t ∷ ts) = and_both (is_same_type t t) (same_types ts ts) (same_type_self t) (same_types_self ts)
+same_types_self (t ∷ ts) = and_both (is_same_type t t) (are_same_types ts ts) (same_type_self t) (same_types_self ts)
 
 label_to : (o : Option Types) (ts : Types) → is_label_of o ts ≡ true → o ≡ Some ts
 label_to None ts e = cc

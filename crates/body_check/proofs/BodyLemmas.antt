@@ -18,13 +18,13 @@ use Rattle.wasm_typing.specs.declared.fault.ValidWord.{ValidWord}
 use Rattle.wasm_typing.specs.declared.fault.ValidWord.TheVariants as word
 use Rattle.body_check.specs.declared.walk.Walk.{Walk}
 use Rattle.wasm_typing.specs.Typing.{Types, Context, BodyTyped}
-use Rattle.wasm_typing.specs.Open.{PartsTyped, parts_before, TypedThrough}
+use Rattle.wasm_typing.specs.faults.Open.{PartsTyped, parts_before, TypedThrough}
 use Rattle.wasm_values.specs.declared.number.ValType.{ValType}
 use Rattle.wasm_syntax.specs.declared.module.FuncType.{FuncType}
 use Rattle.wasm_typing.specs.Valid.{type_at, type_or_none}
-use Rattle.wasm_typing.specs.Faults.{BodyFault}
-use Rattle.body_check.specs.Operands.{Are}
-use Rattle.body_check.specs.Walks.{then_inner, IsAt, Walked, IsOneSimple}
+use Rattle.wasm_typing.specs.faults.Faults.{BodyFault}
+use Rattle.body_check.specs.words.Operands.{Are}
+use Rattle.body_check.specs.words.Walks.{then_inner, IsAt, Walked, IsOneSimple}
 use Rattle.body_check.proofs.WalkLemmas.{inner_of, open_typed, body_typed, body_untyped}
 
 pub first_parts : (body : List Instr) → parts_before body 0 ≡ own [] ∷ []

@@ -16,8 +16,8 @@ use Rattle.wasm_syntax.specs.Trees.{sequence_of}
 use Rattle.wasm_syntax.proofs.SideLemmas.{read-flat_body}
 use Rattle.wasm_syntax.proofs.RestLaws.{live}
 use Rattle.wasm_typing.specs.Typing.{Types, Context, SequenceTyped, BodyTyped}
-use Rattle.wasm_typing.specs.Open.{part_results, label_of, labels_of, before_part, FirstSideTyped, PartsTyped, parts_before, TypedThrough}
-use Rattle.body_check.specs.Walks.{then_inner}
+use Rattle.wasm_typing.specs.faults.Open.{part_results, label_of, labels_of, before_part, FirstSideTyped, PartsTyped, parts_before, TypedThrough}
+use Rattle.body_check.specs.words.Walks.{then_inner}
 use Rattle.body_check.proofs.WalkLemmas.{snoc_to, as_part, Parted, parted, part, before_taken}
 use Rattle.body_check.proofs.BodyLemmas.{first_parts, next_parts, whole_parts}
 

@@ -8,7 +8,7 @@ use Rattle.std.proofs.lemmas.List.{take_more, length-append}
 use Rattle.std.proofs.lemmas.List.Elements.{filter_map-append}
 use Rattle.std.proofs.lemmas.Option.{slice_get_within, slice_get-get_or}
 use Rattle.wasm_typing.specs.declared.fault.ValidWord.{ValidWord}
-use Rattle.wasm_typing.specs.Faults.{NoFault, FirstFault}
+use Rattle.wasm_typing.specs.faults.Faults.{NoFault, FirstFault}
 
 -- no entry before the n-th has a fault
 abbrev pub NoneBefore : {X : Type 0} → (ℕ → X → Option ValidWord) → List X → ℕ → Type 0

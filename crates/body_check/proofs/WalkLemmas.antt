@@ -14,9 +14,9 @@ use Rattle.wasm_syntax.proofs.TreeLaws.{instruction_of-Block, instruction_of-Loo
 use Rattle.body_check.specs.declared.operands.Operands.{Operands}
 use Rattle.body_check.specs.declared.walk.Open.{Open}
 use Rattle.wasm_typing.specs.Typing.{Types, Context, Turns, InstructionTyped, SequenceTyped, BodyTyped}
-use Rattle.wasm_typing.specs.Open.{part_results, label_of, labels_of, before_part, FirstSideTyped, PartsTyped}
-use Rattle.body_check.specs.Operands.{Are, Exactly, Advances, IsStuck, Gave}
-use Rattle.body_check.specs.Walks.{then_inner, MayEnd, IsAround, IsOpen}
+use Rattle.wasm_typing.specs.faults.Open.{part_results, label_of, labels_of, before_part, FirstSideTyped, PartsTyped}
+use Rattle.body_check.specs.words.Operands.{Are, Exactly, Advances, IsStuck, Gave}
+use Rattle.body_check.specs.words.Walks.{then_inner, MayEnd, IsAround, IsOpen}
 use Rattle.body_check.proofs.OperandLemmas.{are_some}
 
 -- ---- one more instruction of a sequence

@@ -15,10 +15,10 @@ use Rattle.body_check.specs.declared.operands.Operands.{Operands}
 use Rattle.body_check.specs.declared.walk.Open.{Open}
 use Rattle.body_check.specs.declared.walk.Walk.{Walk}
 use Rattle.wasm_typing.specs.Typing.{Types, Context, types_of, InstructionTyped}
-use Rattle.wasm_typing.specs.Open.{part_results, label_of, labels_of, before_part, PartsTyped}
-use Rattle.body_check.specs.Operands.{Are, Exactly, Advances, Gave}
-use Rattle.body_check.specs.Steps.{labels_in, Steps}
-use Rattle.body_check.specs.Walks.{then_inner, MayEnd, IsOpen, IsAt, Walked}
+use Rattle.wasm_typing.specs.faults.Open.{part_results, label_of, labels_of, before_part, PartsTyped}
+use Rattle.body_check.specs.words.Operands.{Are, Exactly, Advances, Gave}
+use Rattle.body_check.specs.words.Steps.{labels_in, Steps}
+use Rattle.body_check.specs.words.Walks.{then_inner, MayEnd, IsOpen, IsAt, Walked}
 use Rattle.body_check.proofs.WalkLemmas.{one_more, one_stuck, opened, block_begins, no_block, side_turns, own_turns, no_turn, block_ends, no_end}
 
 pub last_open : (xs rest : List Open) (o : Open) → xs ≡ rest ++ o ∷ [] → reverse xs ≡ o ∷ reverse rest

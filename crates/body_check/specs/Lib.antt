@@ -1,4 +1,1 @@
-pub mod Operands
-pub mod Steps
-pub mod Walks
-pub mod Answers
+pub mod words

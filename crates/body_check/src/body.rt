@@ -5,10 +5,10 @@ ghost use Rattle.wasm_syntax.specs.declared.module.Func.{Func};
 ghost use Rattle.wasm_syntax.specs.FlatForm.{flat_body};
 ghost use Rattle.wasm_syntax.specs.Trees.{sequence_of};
 ghost use Rattle.wasm_typing.specs.Typing.{types_of, BodyTyped};
-ghost use Rattle.wasm_typing.specs.Faults.{BodyFault, BodiesValid, CodeFault};
-ghost use Rattle.body_check.specs.Answers.{Answers, IsScopeOf, HasTypes};
+ghost use Rattle.wasm_typing.specs.faults.Faults.{BodyFault, BodiesValid, CodeFault};
+ghost use Rattle.body_check.specs.words.Answers.{Answers, IsScopeOf, HasTypes};
 ghost use Rattle.wasm_typing.specs.Valid.{FuncValid, context_of};
-ghost use Rattle.body_check.specs.Steps.{context_in, AreNames};
+ghost use Rattle.body_check.specs.words.Steps.{context_in, AreNames};
 
 use crate::names::Names;
 use crate::scope::Scope;

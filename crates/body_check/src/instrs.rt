@@ -2,16 +2,17 @@
 
 ghost use Rattle.std.specs.Prelude.{◌≡◌, [], ◌∷◌, ◌++◌, None, IfOk, IsTrue, ◌==◌, reverse, length};
 ghost use Rattle.wasm_values.specs.Operators.{operand_type, result_type, num_operands, is_test, type_of};
-ghost use Rattle.wasm_syntax.specs.FlatForm.{is_simple};
+ghost use Rattle.wasm_syntax.specs.declared.instr.Instr.{Instr};
+ghost use Rattle.wasm_syntax.specs.Items.{instr_seen};
 ghost use Rattle.wasm_syntax.specs.Accesses.{loaded_type, stored_type};
 ghost use Rattle.wasm_typing.specs.Typing.{Types, types_of, num_takes, Turns, Takes};
-ghost use Rattle.body_check.specs.Operands.{Are, Goes};
-ghost use Rattle.body_check.specs.Steps.{context_in, AreNames, labels_in, is_variable, is_transfer, IsReady, Acts, Steps};
+ghost use Rattle.body_check.specs.words.Operands.{Are, Goes};
+ghost use Rattle.body_check.specs.words.Steps.{context_in, AreNames, labels_in, is_variable, is_transfer, IsReady, Acts, Steps};
 
 use crate::names::{self, Names};
 use crate::needs::first_need;
 use crate::operands::Operands;
-use wasm_syntax::{Instr, Plain, loaded_type, stored_type};
+use wasm_syntax::{Plain, Simple, loaded_type, stored_type};
 use wasm_typing::ValidWord;
 use wasm_values::{IntOp, NumOp, OutOfMemory, Val, ValType};
 
@@ -43,31 +44,31 @@ fn act_variable(
     operands: &mut Operands,
     names: &Names<'_>,
     labels: &[Option<ValType>],
-    instr: &Instr,
+    instr: Simple<'_>,
 ) -> Result<bool, OutOfMemory>
     requires names { AreNames names.now }
-    requires kind { IsTrue (is_variable instr.now) }
-    requires ready { IsReady (context_in names.now) (labels_in labels.now) instr.now }
-    ensures { Acts result (Are operands.old) (Are operands.new) (context_in names.now) (labels_in labels.now) instr.now }
+    requires kind { IsTrue (is_variable (instr_seen instr)) }
+    requires ready { IsReady (context_in names.now) (labels_in labels.now) (instr_seen instr) }
+    ensures { Acts result (Are operands.old) (Are operands.new) (context_in names.now) (labels_in labels.now) (instr_seen instr.entry) }
 {
     match instr {
-        Instr::LocalGet(x) => match names::local_type(names, *x) {
+        Simple::LocalGet(x) => match names::local_type(names, x) {
             Some(ty) => operands.turn(&[], &[ty]),
             None => Ok(false),
         },
-        Instr::LocalSet(x) => match names::local_type(names, *x) {
+        Simple::LocalSet(x) => match names::local_type(names, x) {
             Some(ty) => operands.turn(&[ty], &[]),
             None => Ok(false),
         },
-        Instr::LocalTee(x) => match names::local_type(names, *x) {
+        Simple::LocalTee(x) => match names::local_type(names, x) {
             Some(ty) => operands.turn(&[ty], &[ty]),
             None => Ok(false),
         },
-        Instr::GlobalGet(x) => match names::global_type(names, *x) {
+        Simple::GlobalGet(x) => match names::global_type(names, x) {
             Some(ty) => operands.turn(&[], &[ty.value]),
             None => Ok(false),
         },
-        Instr::GlobalSet(x) => match names::global_type(names, *x) {
+        Simple::GlobalSet(x) => match names::global_type(names, x) {
             Some(ty) => operands.turn(&[ty.value], &[]),
             None => Ok(false),
         },
@@ -147,31 +148,31 @@ fn act_transfer(
     operands: &mut Operands,
     names: &Names<'_>,
     labels: &[Option<ValType>],
-    instr: &Instr,
+    instr: Simple<'_>,
 ) -> Result<bool, OutOfMemory>
     requires names { AreNames names.now }
-    requires kind { IsTrue (is_transfer instr.now) }
-    requires ready { IsReady (context_in names.now) (labels_in labels.now) instr.now }
-    ensures { Acts result (Are operands.old) (Are operands.new) (context_in names.now) (labels_in labels.now) instr.now }
+    requires kind { IsTrue (is_transfer (instr_seen instr)) }
+    requires ready { IsReady (context_in names.now) (labels_in labels.now) (instr_seen instr) }
+    ensures { Acts result (Are operands.old) (Are operands.new) (context_in names.now) (labels_in labels.now) (instr_seen instr.entry) }
 {
     match instr {
-        Instr::Br(l) => match names::label_at(labels, *l) {
+        Simple::Br(l) => match names::label_at(labels, l) {
             Some(ty) => Ok(operands.leave_with(ty)),
             None => Ok(false),
         },
-        Instr::BrIf(l) => match names::label_at(labels, *l) {
+        Simple::BrIf(l) => match names::label_at(labels, l) {
             Some(ty) => operands.keep_with(ty),
             None => Ok(false),
         },
-        Instr::BrTable(_, l) => match names::label_at(labels, *l) {
+        Simple::BrTable(_, l) => match names::label_at(labels, l) {
             Some(ty) => Ok(operands.choose_with(ty)),
             None => Ok(false),
         },
-        Instr::Call(f) => match names::func_type(names, *f) {
+        Simple::Call(f) => match names::func_type(names, f) {
             Some(ty) => operands.turn(ty.params.as_slice(), ty.results.as_slice()),
             None => Ok(false),
         },
-        Instr::CallIndirect(t) => match names::numbered_type(names, *t) {
+        Simple::CallIndirect(t) => match names::numbered_type(names, t) {
             Some(ty) => turn_over(operands, ty.params.as_slice(), ty.results.as_slice()),
             None => Ok(false),
         },
@@ -184,28 +185,26 @@ fn act(
     operands: &mut Operands,
     names: &Names<'_>,
     labels: &[Option<ValType>],
-    instr: &Instr,
+    instr: Simple<'_>,
 ) -> Result<bool, OutOfMemory>
     requires names { AreNames names.now }
-    requires simple { IsTrue (is_simple instr.now) }
-    requires ready { IsReady (context_in names.now) (labels_in labels.now) instr.now }
-    ensures { Acts result (Are operands.old) (Are operands.new) (context_in names.now) (labels_in labels.now) instr.now }
+    requires ready { IsReady (context_in names.now) (labels_in labels.now) (instr_seen instr) }
+    ensures { Acts result (Are operands.old) (Are operands.new) (context_in names.now) (labels_in labels.now) (instr_seen instr.entry) }
 {
     match instr {
-        Instr::Plain(op) => act_plain(operands, names, labels, *op),
-        Instr::Num(op) => act_num(operands, *op),
-        Instr::Const(value) => operands.turn(&[], &[type_of_value(*value)]),
-        Instr::Load(op, _, _) => operands.turn(&[ValType::I32], &[loaded_type(*op)]),
-        Instr::Store(op, _, _) => operands.turn(&[ValType::I32, stored_type(*op)], &[]),
-        Instr::LocalGet(_) | Instr::LocalSet(_) | Instr::LocalTee(_) => act_variable(
+        Simple::Plain(op) => act_plain(operands, names, labels, op),
+        Simple::Num(op) => act_num(operands, op),
+        Simple::Const(value) => operands.turn(&[], &[type_of_value(value)]),
+        Simple::Load(op, _, _) => operands.turn(&[ValType::I32], &[loaded_type(op)]),
+        Simple::Store(op, _, _) => operands.turn(&[ValType::I32, stored_type(op)], &[]),
+        Simple::LocalGet(_) | Simple::LocalSet(_) | Simple::LocalTee(_) => act_variable(
             operands, names, labels, instr,
         ),
-        Instr::GlobalGet(_) | Instr::GlobalSet(_) => act_variable(operands, names, labels, instr),
-        Instr::Br(_) | Instr::BrIf(_) | Instr::BrTable(_, _) => act_transfer(
+        Simple::GlobalGet(_) | Simple::GlobalSet(_) => act_variable(operands, names, labels, instr),
+        Simple::Br(_) | Simple::BrIf(_) | Simple::BrTable(_, _) => act_transfer(
             operands, names, labels, instr,
         ),
-        Instr::Call(_) | Instr::CallIndirect(_) => act_transfer(operands, names, labels, instr),
-        Instr::Block(_, _) | Instr::Loop(_, _) | Instr::If(_, _, _) => unreachable!(),
+        Simple::Call(_) | Simple::CallIndirect(_) => act_transfer(operands, names, labels, instr),
     }
 }
 
@@ -214,11 +213,10 @@ pub(crate) fn step(
     operands: &mut Operands,
     names: &Names<'_>,
     labels: &[Option<ValType>],
-    instr: &Instr,
+    instr: Simple<'_>,
 ) -> Result<Option<ValidWord>, OutOfMemory>
     requires names { AreNames names.now }
-    requires simple { IsTrue (is_simple instr.now) }
-    ensures { IfOk result (λ fault. Steps fault (Are operands.old) (Are operands.new) (context_in names.now) (labels_in labels.now) instr.now) }
+    ensures { IfOk result (λ fault. Steps fault (Are operands.old) (Are operands.new) (context_in names.now) (labels_in labels.now) (instr_seen instr.entry)) }
 {
     match first_need(names, labels, instr) {
         Some(word) => Ok(Some(word)),

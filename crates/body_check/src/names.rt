@@ -1,6 +1,6 @@
 ghost use Rattle.std.specs.Prelude.{◌≡◌, ◌<◌, ◌-◌, length, slice_get, option_map, map};
 ghost use Rattle.wasm_typing.specs.Typing.{types_of};
-ghost use Rattle.body_check.specs.Steps.{context_in, AreNames, labels_in};
+ghost use Rattle.body_check.specs.words.Steps.{context_in, AreNames, labels_in};
 
 use crate::scope::Scope;
 use wasm_syntax::{Func, FuncType, GlobalType, Module};

@@ -3,12 +3,14 @@
 ghost use Rattle.std.specs.Prelude.{◌≡◌, ◌≤◌, ◌^◌, [], ◌∷◌, nat_le, nat_lt, is_some, slice_get, length};
 ghost use Rattle.std.specs.List.{list_all};
 ghost use Rattle.wasm_syntax.specs.Accesses.{bytes_loaded, bytes_stored};
+ghost use Rattle.wasm_syntax.specs.Items.{instr_seen};
+ghost use Rattle.wasm_values.specs.Types.{are_same_types};
 ghost use Rattle.wasm_typing.specs.Typing.{types_of};
-ghost use Rattle.wasm_typing.specs.Faults.{condition, first_failing, conditions, same_types, are_targets, is_label_of, is_mutable};
-ghost use Rattle.body_check.specs.Steps.{context_in, AreNames, labels_in};
+ghost use Rattle.wasm_typing.specs.faults.Faults.{condition, first_failing, conditions, are_targets, is_label_of, is_mutable};
+ghost use Rattle.body_check.specs.words.Steps.{context_in, AreNames, labels_in};
 
 use crate::names::{self, Names};
-use wasm_syntax::{Instr, Plain, bytes_loaded, bytes_stored};
+use wasm_syntax::{Plain, Simple, bytes_loaded, bytes_stored};
 use wasm_typing::ValidWord;
 use wasm_values::ValType;
 
@@ -21,7 +23,7 @@ fn is_aligned(align: u32, width: usize) -> bool
 }
 
 fn is_same(a: Option<ValType>, b: Option<ValType>) -> bool
-    ensures { result ≡ same_types (types_of a) (types_of b) }
+    ensures { result ≡ are_same_types (types_of a) (types_of b) }
 {
     match (a, b) {
         (None, None)
@@ -107,27 +109,27 @@ fn set_fault(names: &Names<'_>, x: u32) -> Option<ValidWord>
 pub(crate) fn first_need(
     names: &Names<'_>,
     labels: &[Option<ValType>],
-    instr: &Instr,
+    instr: Simple<'_>,
 ) -> Option<ValidWord>
     requires { AreNames names.now }
-    ensures { result ≡ first_failing (conditions (context_in names.now) (labels_in labels.now) instr.now) }
+    ensures { result ≡ first_failing (conditions (context_in names.now) (labels_in labels.now) (instr_seen instr.entry)) }
 {
     match instr {
-        Instr::Plain(Plain::MemorySize) | Instr::Plain(Plain::MemoryGrow) => index_unless(
+        Simple::Plain(Plain::MemorySize) | Simple::Plain(Plain::MemoryGrow) => index_unless(
             names.scope.memories > 0,
         ),
-        Instr::LocalGet(x) | Instr::LocalSet(x) | Instr::LocalTee(x) => index_unless(
-            names::local_type(names, *x).is_some(),
+        Simple::LocalGet(x) | Simple::LocalSet(x) | Simple::LocalTee(x) => index_unless(
+            names::local_type(names, x).is_some(),
         ),
-        Instr::GlobalGet(x) => index_unless(names.scope.globals.get(*x as usize).is_some()),
-        Instr::GlobalSet(x) => set_fault(names, *x),
-        Instr::Load(op, align, _) => align_fault(names, *align, bytes_loaded(*op)),
-        Instr::Store(op, align, _) => align_fault(names, *align, bytes_stored(*op)),
-        Instr::Br(l) | Instr::BrIf(l) => label_unless(names::label_at(labels, *l).is_some()),
-        Instr::BrTable(ls, l) => label_unless(have_one_type(labels, ls.as_slice(), *l)),
-        Instr::Call(f) => index_unless(names::func_type(names, *f).is_some()),
-        Instr::CallIndirect(t) => index_unless(
-            names.scope.tables > 0 && names.whole.types.as_slice().get(*t as usize).is_some(),
+        Simple::GlobalGet(x) => index_unless(names.scope.globals.get(x as usize).is_some()),
+        Simple::GlobalSet(x) => set_fault(names, x),
+        Simple::Load(op, align, _) => align_fault(names, align, bytes_loaded(op)),
+        Simple::Store(op, align, _) => align_fault(names, align, bytes_stored(op)),
+        Simple::Br(l) | Simple::BrIf(l) => label_unless(names::label_at(labels, l).is_some()),
+        Simple::BrTable(ls, l) => label_unless(have_one_type(labels, ls, l)),
+        Simple::Call(f) => index_unless(names::func_type(names, f).is_some()),
+        Simple::CallIndirect(t) => index_unless(
+            names.scope.tables > 0 && names.whole.types.as_slice().get(t as usize).is_some(),
         ),
         _ => None,
     }

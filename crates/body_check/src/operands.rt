@@ -3,7 +3,7 @@
 ghost use Rattle.std.specs.Prelude.{◌≡◌, [], ◌∷◌, ◌++◌, true, false, length, reverse, OnOk, IfOk, IsTrue};
 ghost use Rattle.wasm_values.specs.declared.number.ValType.{ValType};
 ghost use Rattle.wasm_typing.specs.Typing.{Types, types_of, Turns, Takes};
-ghost use Rattle.body_check.specs.Operands.{Exactly, IsOfType, IsCommon, Are, TookAny, Pushed, Advances, IsStuck, Goes, Took, Gave};
+ghost use Rattle.body_check.specs.words.Operands.{Exactly, IsOfType, IsCommon, Are, TookAny, Pushed, Advances, IsStuck, Goes, Took, Gave};
 
 use smallvec::SmallVec;
 use std::alloc::Global;

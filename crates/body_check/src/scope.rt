@@ -1,7 +1,7 @@
 ghost use Rattle.std.specs.Prelude.{◌≡◌, ◌≤◌, ◌++◌, [], is_some, if◌then◌else◌, length, IfOk, OnOk};
 ghost use Rattle.std.specs.List.{filter_map, cons_option};
 ghost use Rattle.wasm_syntax.specs.declared.module.Import.{Import};
-ghost use Rattle.body_check.specs.Answers.{Answers, IsScopeOf};
+ghost use Rattle.body_check.specs.words.Answers.{Answers, IsScopeOf};
 ghost use Rattle.wasm_typing.specs.Valid.{tables_of, memories_of, func_types_of, imported_globals_of, globals_of, table_import, memory_import, func_import, global_import};
 
 use std::alloc::{AllocError, Global as Heap};

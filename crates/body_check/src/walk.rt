@@ -1,19 +1,20 @@
 // The walk over a body, forwards and once.
 
 ghost use Rattle.std.specs.Prelude.{◌≡◌, [], ◌∷◌, ◌++◌, true, false, Some, None, List, IfOk, OnOk};
+ghost use Rattle.wasm_syntax.specs.declared.flat.Flat.{Flat};
 ghost use Rattle.wasm_syntax.specs.Parts.{Part, own};
 ghost use Rattle.wasm_typing.specs.Typing.{Types, Context, types_of};
-ghost use Rattle.wasm_typing.specs.Open.{label_of, part_results, before_part};
-ghost use Rattle.body_check.specs.Operands.{Are, Exactly};
-ghost use Rattle.body_check.specs.Steps.{context_in, AreNames};
-ghost use Rattle.body_check.specs.Walks.{IsAt, Walked, Begins, Leads, MayEnd, IsOneSimple};
+ghost use Rattle.wasm_typing.specs.faults.Open.{label_of, part_results, before_part};
+ghost use Rattle.body_check.specs.words.Operands.{Are, Exactly};
+ghost use Rattle.body_check.specs.words.Steps.{context_in, AreNames};
+ghost use Rattle.body_check.specs.words.Walks.{IsAt, Walked, Begins, Leads, MayEnd, IsOneSimple};
 
 use crate::instrs::step;
 use crate::names::Names;
 use crate::operands::Operands;
 use smallvec::SmallVec;
 use std::alloc::Global;
-use wasm_syntax::{Flat, Head};
+use wasm_syntax::{Head, Item, Seen};
 use wasm_typing::ValidWord;
 use wasm_values::{OutOfMemory, ValType};
 
@@ -194,24 +195,24 @@ impl Walk {
         &mut self,
         alloc: Global,
         names: &Names<'_>,
-        item: &Flat,
+        item: &Item,
     ) -> Result<Option<ValidWord>, OutOfMemory>
         requires names { AreNames names.now }
         requires simple { IsOneSimple item.now }
         ensures { IfOk result (λ fault. (ps : List Part) → IsAt (context_in names.now) self.old ps → Walked fault (context_in names.now) self.new ps item.now) }
     {
-        let led = match item {
-            Flat::One(instr) => return step(
+        let led = match item.seen() {
+            Seen::One(instr) => return step(
                 &mut self.operands,
                 names,
                 self.labels.as_slice(),
                 instr,
             ),
-            Flat::Block(ty) => self.begin(alloc, Head::Block(*ty))?,
-            Flat::Loop(ty) => self.begin(alloc, Head::Loop(*ty))?,
-            Flat::If(ty) => self.begin(alloc, Head::If(*ty))?,
-            Flat::Else => self.turn(alloc, names.results)?,
-            Flat::End => self.end()?,
+            Seen::Block(ty) => self.begin(alloc, Head::Block(ty))?,
+            Seen::Loop(ty) => self.begin(alloc, Head::Loop(ty))?,
+            Seen::If(ty) => self.begin(alloc, Head::If(ty))?,
+            Seen::Else => self.turn(alloc, names.results)?,
+            Seen::End => self.end()?,
         };
         if led {
             Ok(None)

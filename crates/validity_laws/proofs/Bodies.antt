@@ -12,10 +12,10 @@ use Rattle.wasm_syntax.specs.Parts.{Part, own}
 use Rattle.wasm_syntax.specs.Trees.{sequence_of}
 use Rattle.wasm_typing.specs.declared.fault.ValidWord.{ValidWord}
 use Rattle.wasm_typing.specs.Typing.{Context, BodyTyped}
-use Rattle.wasm_typing.specs.Open.{labels_of, PartsTyped, parts_before, TypedThrough}
-use Rattle.wasm_typing.specs.Faults.{item_word, BodyFault}
-use Rattle.body_check.specs.Operands.{Are}
-use Rattle.body_check.specs.Walks.{then_inner, IsOpen}
+use Rattle.wasm_typing.specs.faults.Open.{labels_of, PartsTyped, parts_before, TypedThrough}
+use Rattle.wasm_typing.specs.faults.Faults.{item_word, BodyFault}
+use Rattle.body_check.specs.words.Operands.{Are}
+use Rattle.body_check.specs.words.Walks.{then_inner, IsOpen}
 use Rattle.body_check.proofs.WalkLemmas.{open_typed, body_typed, body_untyped}
 use Rattle.body_check.proofs.BodyLemmas.{first_parts, next_parts, whole_parts, simple_at, some_items, TypedBefore}
 use Rattle.validity_laws.proofs.Known.{Decided}

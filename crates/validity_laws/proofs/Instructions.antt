@@ -15,8 +15,8 @@ use Rattle.wasm_syntax.specs.FlatForm.{is_simple}
 use Rattle.wasm_syntax.specs.Trees.{instruction_of}
 use Rattle.wasm_typing.specs.declared.fault.ValidWord.{ValidWord}
 use Rattle.wasm_typing.specs.Typing.{Types, Context, Turns, Takes, num_takes, PlainTyped, InstructionTyped}
-use Rattle.wasm_typing.specs.Faults.{first_failing, conditions}
-use Rattle.body_check.specs.Operands.{StandsFor}
+use Rattle.wasm_typing.specs.faults.Faults.{first_failing, conditions}
+use Rattle.body_check.specs.words.Operands.{StandsFor}
 use Rattle.body_check.proofs.ActLemmas.{looked_up, looked_up_with, guarded, need_stuck, targets_there}
 use Rattle.validity_laws.proofs.Known.{Decided, Moves, moves_as, less, at_most, turning, leaving, stopping, dropping, selecting}
 

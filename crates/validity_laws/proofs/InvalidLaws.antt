@@ -9,9 +9,9 @@ use Rattle.wasm_syntax.specs.declared.module.Marks.{Marks}
 use Rattle.wasm_syntax.specs.FlatForm.{flat_body}
 use Rattle.wasm_typing.specs.declared.fault.ValidWord.{ValidWord}
 use Rattle.wasm_typing.specs.Typing.{Context}
-use Rattle.wasm_typing.specs.Open.{labels_of, parts_before}
+use Rattle.wasm_typing.specs.faults.Open.{labels_of, parts_before}
 use Rattle.wasm_typing.specs.Valid.{FuncValid, context_of, Valid}
-use Rattle.wasm_typing.specs.Faults.{type_fault, import_fault, func_fault, module_table_fault, module_memory_fault, global_fault, export_fault, start_fault, elem_fault, segment_fault, item_word, NoFault, BodiesValid, FirstFault, BodyFault, StartFault, CodeFault, In, InvalidAt}
+use Rattle.wasm_typing.specs.faults.Faults.{type_fault, import_fault, func_fault, module_table_fault, module_memory_fault, global_fault, export_fault, start_fault, elem_fault, segment_fault, item_word, NoFault, BodiesValid, FirstFault, BodyFault, StartFault, CodeFault, In, InvalidAt}
 use Rattle.body_check.proofs.PrefixLemmas.{typed_through}
 use Rattle.wasm_validate.proofs.PartsLemmas.{parts_none, refuted}
 

@@ -4,7 +4,7 @@ use Rattle.std.proofs.lemmas.Bool.{cases_order}
 use Rattle.wasm_values.specs.declared.number.ValType.{ValType}
 use Rattle.wasm_values.specs.declared.number.ValType.TheVariants.{I32, I64}
 use Rattle.wasm_typing.specs.Typing.{Types, Turns, Takes}
-use Rattle.body_check.specs.Operands.{IsOfType, IsCommon, StandsFor, Advances, IsStuck, Took, TookAny, Pushed, Gave}
+use Rattle.body_check.specs.words.Operands.{IsOfType, IsCommon, StandsFor, Advances, IsStuck, Took, TookAny, Pushed, Gave}
 use Rattle.body_check.proofs.OperandLemmas.{dropped, none_to_drop, left, not_left, turned_into, not_turned, selected}
 use Rattle.body_check.proofs.ActLemmas.{Same, goes_as}
 

@@ -11,11 +11,11 @@ use Rattle.binary_grammar.specs.declared.section.Draft.{Draft}
 use Rattle.binary_grammar.specs.declared.section.Decoded.{Decoded}
 use Rattle.binary_grammar.specs.Grammar.{Spelling, Then, Done, Tagged, Each, Many, SpellsVector}
 use Rattle.binary_grammar.specs.CodeGrammar.{SpellsItem, SpellsExpression, Sized, OfLength, SpellsBodyContents, SpellsBody}
-use Rattle.binary_grammar.specs.SectionReading.{with_section, no_sections, whole_module, funcs_of, places_of}
+use Rattle.binary_grammar.specs.words.SectionReading.{with_section, no_sections, whole_module, funcs_of, places_of}
 use Rattle.binary_grammar.specs.ModuleGrammar.{SpellsContents, SpellsSection, InTurn, Spells}
 use Rattle.binary_grammar.proofs.Drafts.{with_sections}
 use Rattle.binary_grammar.proofs.DraftLaws.{drafted}
-use Rattle.wasm_typing.specs.Faults.{Marked}
+use Rattle.wasm_typing.specs.faults.Faults.{Marked}
 
 -- a part for each place
 each_length : {A : Type 0} (P : Spelling A) (at : ℕ) (text : List ℕ) (xs : List A) (ps : List ℕ) → Each P at text (xs, ps) → length ps ≡ length xs

@@ -6,7 +6,7 @@ use Rattle.wasm_syntax.specs.declared.module.Module.{Module}
 use Rattle.wasm_syntax.specs.declared.module.Marks.{Marks}
 use Rattle.wasm_typing.specs.declared.fault.ValidWord.{ValidWord}
 use Rattle.wasm_typing.specs.Valid.{context_of, FuncValid, InRange, Valid}
-use Rattle.wasm_typing.specs.Faults.{NoFault, FirstFault, CodeFault, BodiesValid, In, StartFault, start_fault, type_fault, import_fault, func_fault, module_table_fault, module_memory_fault, global_fault, export_fault, elem_fault, segment_fault, InvalidAt, HasNoFault, Marked}
+use Rattle.wasm_typing.specs.faults.Faults.{NoFault, FirstFault, CodeFault, BodiesValid, In, StartFault, start_fault, type_fault, import_fault, func_fault, module_table_fault, module_memory_fault, global_fault, export_fault, elem_fault, segment_fault, InvalidAt, HasNoFault, Marked}
 use Rattle.body_check.proofs.SectionLemmas.{NoneBefore, none_at_first, none_more, none_at_all, first_fault}
 use Rattle.wasm_validate.proofs.PartsLemmas.{parts_valid, parts_none, refuted}
 use Rattle.validity_laws.proofs.Bodies.{Faulty, body_decided}

@@ -24,8 +24,8 @@ use Rattle.wasm_syntax.specs.declared.module.Segment.{Segment}
 use Rattle.wasm_syntax.specs.FlatForm.{flat_body}
 use Rattle.wasm_syntax.specs.Trees.{instruction_of, sequence_of}
 use Rattle.wasm_typing.specs.Valid.{IsWord, InstructionInRange, SequenceInRange, LimitsInRange, BytesInRange, ImportInRange, ExportInRange}
-use Rattle.wasm_typing.specs.Open.{parts_before}
-use Rattle.body_check.specs.Walks.{ItemInRange}
+use Rattle.wasm_typing.specs.faults.Open.{parts_before}
+use Rattle.body_check.specs.words.Walks.{ItemInRange}
 use Rattle.body_check.proofs.BodyLemmas.{some_items}
 use Rattle.wasm_validate.proofs.RangeLemmas.{AreInRange, in_range_first, in_range_next, in_range_whole}
 use Rattle.binary_grammar.specs.declared.section.Body.{Body}

@@ -14,7 +14,7 @@ use Rattle.binary_grammar.specs.declared.section.Draft.{Draft}
 use Rattle.binary_grammar.specs.declared.section.Decoded.{Decoded}
 use Rattle.binary_grammar.specs.Grammar.{SpellsNumber, SpellsTableType, SpellsLimits, SpellsImport, SpellsExport}
 use Rattle.binary_grammar.specs.CodeGrammar.{SpellsBody}
-use Rattle.binary_grammar.specs.SectionReading.{with_section, after_of, no_sections, whole_module, funcs_of, header}
+use Rattle.binary_grammar.specs.words.SectionReading.{with_section, after_of, no_sections, whole_module, funcs_of, header}
 use Rattle.binary_grammar.specs.ModuleGrammar.{SpellsGlobal, SpellsElem, SpellsSegment, SpellsContents, SpellsSection, InTurn, Spells}
 use Rattle.binary_grammar.proofs.Drafts.{with_sections}
 use Rattle.binary_grammar.proofs.DraftLaws.{drafted}

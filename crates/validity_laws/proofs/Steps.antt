@@ -11,11 +11,11 @@ use Rattle.wasm_syntax.specs.declared.flat.Head.TheVariants as head
 use Rattle.wasm_syntax.specs.Parts.{Part, begun, with_instr, turned, closed_part}
 use Rattle.wasm_syntax.specs.Trees.{instruction_of}
 use Rattle.wasm_typing.specs.Typing.{Types, Context, InstructionTyped}
-use Rattle.wasm_typing.specs.Open.{part_results, labels_of, before_part, PartsTyped}
+use Rattle.wasm_typing.specs.faults.Open.{part_results, labels_of, before_part, PartsTyped}
 use Rattle.body_check.specs.declared.operands.Operands.{Operands}
 use Rattle.body_check.specs.declared.walk.Open.{Open}
-use Rattle.body_check.specs.Operands.{StandsFor, Are, Exactly, Advances, Gave}
-use Rattle.body_check.specs.Walks.{then_inner, MayEnd, IsOpen, IsOneSimple}
+use Rattle.body_check.specs.words.Operands.{StandsFor, Are, Exactly, Advances, Gave}
+use Rattle.body_check.specs.words.Walks.{then_inner, MayEnd, IsOpen, IsOneSimple}
 use Rattle.body_check.proofs.WalkLemmas.{one_more, one_stuck, opened, block_begins, no_block, side_turns, own_turns, no_turn, block_ends, no_end}
 use Rattle.validity_laws.proofs.Known.{Decided, Moves, Taking, stands, taking, giving}
 use Rattle.validity_laws.proofs.Instructions.{simple_moves}

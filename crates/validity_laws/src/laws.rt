@@ -5,7 +5,7 @@ ghost use Rattle.wasm_syntax.specs.declared.module.Module.{Module};
 ghost use Rattle.wasm_syntax.specs.declared.module.Marks.{Marks};
 ghost use Rattle.wasm_typing.specs.declared.fault.ValidWord.{ValidWord};
 ghost use Rattle.wasm_typing.specs.Valid.{Valid, InRange, BytesInRange};
-ghost use Rattle.wasm_typing.specs.Faults.{InvalidAt, Marked};
+ghost use Rattle.wasm_typing.specs.faults.Faults.{InvalidAt, Marked};
 ghost use Rattle.binary_grammar.specs.ModuleGrammar.{Spells};
 
 /// A module whose numbers lie in their ranges, with marks that have one place for each entry and instruction, is valid or

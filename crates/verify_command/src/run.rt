@@ -1,9 +1,10 @@
 // The top call.
 
-ghost use Rattle.std.specs.Prelude.{◌≡◌, ◌⊎◌, None, IfSome, IsSomeAnd};
+ghost use Rattle.std.specs.Prelude.{◌≡◌, ◌≤◌, ◌⊎◌, None, IfSome, IsSomeAnd};
+ghost use Rattle.std.specs.Io.KnownBytes.{Appends};
 ghost use Rattle.rw_edge.specs.Count.{Faulted};
 ghost use Rattle.verify_report.specs.Reports.{Report, IsReport, command_of, nothing_read, words_refused};
-ghost use Rattle.verify_report.specs.Outcomes.{IsSpoken, IsQuiet, Comes, Wrote, Told, texts};
+ghost use Rattle.verify_report.specs.Outcomes.{IsSpoken, IsQuiet, Comes, Wrote, Told, AskVerdict, texts, verified_text};
 ghost use Rattle.verify_report.specs.Accepted.{IsAccepted};
 
 use rw_edge::{Failed, Shelf, Sink, emit};
@@ -15,6 +16,7 @@ fn written<K: Sink>(text: &[u8], status: Status, sink: &mut K) -> Status
     requires { IsSpoken status ⊎ (status ≡ Status.Words) }
     ensures comes { (result ≡ status) ⊎ ((result ≡ Status.WriteFault) × Faulted (K.faults sink.old) (K.faults sink.new)) }
     ensures wrote { Wrote result text.now (K.written sink.old) (K.written sink.new) }
+    ensures count { K.faults sink.old ≤ K.faults sink.new }
 {
     match emit(sink, text) {
         Ok(()) => status,
@@ -26,6 +28,7 @@ fn written<K: Sink>(text: &[u8], status: Status, sink: &mut K) -> Status
 fn refused<K: Sink>(sink: &mut K) -> Status
     ensures comes { (result ≡ Status.Words) ⊎ ((result ≡ Status.WriteFault) × Faulted (K.faults sink.old) (K.faults sink.new)) }
     ensures wrote { Wrote result words_refused.text (K.written sink.old) (K.written sink.new) }
+    ensures count { K.faults sink.old ≤ K.faults sink.new }
 {
     written(b"words refused\n", Status::Words, sink)
 }
@@ -41,7 +44,11 @@ fn act<S: Shelf, K: Sink>(alloc: Global, words: &Vec<String>, shelf: &mut S, sin
     ensures write { result ≡ Status.WriteFault → Faulted (K.faults sink.old) (K.faults sink.new) }
     ensures told { IfSome (S.files shelf.old) (λ files. Told result (IsReport (texts words.now.items) files)
         (Faulted (S.faults shelf.old) (S.faults shelf.new)) (Faulted (K.faults sink.old) (K.faults sink.new)) (K.written sink.old) (K.written sink.new)) }
+    ensures verified { AskVerdict (texts words.now.items) → result ≡ Status.Good → Appends (K.written sink.old) (K.written sink.new) verified_text }
     ensures quiet { IsQuiet result → K.written sink.new ≡ K.written sink.old }
+    ensures files { S.files shelf.new ≡ S.files shelf.old }
+    ensures shelf_count { S.faults shelf.old ≤ S.faults shelf.new }
+    ensures sink_count { K.faults sink.old ≤ K.faults sink.new }
 {
     match reported(alloc, words, shelf) {
         Ok(report) => written(report.text.as_slice(), report.status, sink),
@@ -85,8 +92,16 @@ pub fn run<S: Shelf, K: Sink>(
     ensures complete { IfSome (S.files shelf.old) (λ files. IsAccepted (texts words.now.items) files → Comes result Status.Good
         (Faulted (S.faults shelf.old) (S.faults shelf.new)) (Faulted (K.faults sink.old) (K.faults sink.new))) }
 
+    // Where a verdict on notes was asked for, what `Good` appends is `verified` and a newline, over any shelf.
+    ensures verified { AskVerdict (texts words.now.items) → result ≡ Status.Good → Appends (K.written sink.old) (K.written sink.new) verified_text }
+
     // Nothing is written where there is no report.
     ensures quiet { IsQuiet result → K.written sink.new ≡ K.written sink.old }
+
+    // The shelf's files are as they were, and no count of faults falls.
+    ensures files { S.files shelf.new ≡ S.files shelf.old }
+    ensures shelf_count { S.faults shelf.old ≤ S.faults shelf.new }
+    ensures sink_count { K.faults sink.old ≤ K.faults sink.new }
 {
     act(alloc, words, shelf, sink)
 }

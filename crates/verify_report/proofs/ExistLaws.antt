@@ -16,7 +16,7 @@ use Rattle.binary_grammar.proofs.ModuleLaws.{module_takes}
 use Rattle.binary_grammar.proofs.PlanWhole.{reads_module}
 use Rattle.wasm_typing.specs.declared.fault.ValidWord.{ValidWord}
 use Rattle.wasm_typing.specs.Valid.{BytesInRange, Valid}
-use Rattle.wasm_typing.specs.Faults.{InvalidAt}
+use Rattle.wasm_typing.specs.faults.Faults.{InvalidAt}
 use Rattle.validity_laws.proofs.Modules.{valid_or_fault}
 use Rattle.validity_laws.proofs.Spelled.{spelled_in_range}
 use Rattle.first_reader.specs.FirstTests.{is_first}

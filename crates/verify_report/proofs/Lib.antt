@@ -4,3 +4,4 @@ pub mod OnceLaws
 pub mod AcceptLaws
 pub mod OutcomeLaws
 pub mod ExistLaws
+pub mod Verdicts

@@ -6,7 +6,7 @@ use Rattle.binary_grammar.specs.declared.fault.DecodeFault.{DecodeFault}
 use Rattle.binary_grammar.specs.declared.fault.DecodeFault.TheVariants as decode
 use Rattle.binary_grammar.specs.declared.section.Decoded.{Decoded}
 use Rattle.binary_grammar.specs.Bounds.{the_bounds}
-use Rattle.binary_grammar.specs.SectionReading.{module_at}
+use Rattle.binary_grammar.specs.words.SectionReading.{module_at}
 use Rattle.binary_grammar.specs.ModuleGrammar.{Spells, InLimits}
 use Rattle.binary_grammar.specs.Plans.{Fault}
 use Rattle.binary_grammar.proofs.UniqueLaws.{one_module}

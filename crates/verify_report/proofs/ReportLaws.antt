@@ -11,13 +11,15 @@ use Rattle.binary_grammar.specs.Plans.{Refused}
 use Rattle.wasm_typing.specs.declared.fault.ValidWord.{ValidWord}
 use Rattle.wasm_typing.specs.declared.fault.ValidFault.{ValidFault}
 use Rattle.wasm_typing.specs.declared.fault.ValidFault.TheVariants as fault
-use Rattle.body_check.specs.Answers.{Answers}
+use Rattle.body_check.specs.words.Answers.{Answers}
 use Rattle.wasm_typing.specs.Valid.{Valid}
-use Rattle.wasm_typing.specs.Faults.{InvalidAt}
+use Rattle.wasm_typing.specs.faults.Faults.{InvalidAt}
 use Rattle.outline_check.specs.First.{IsFirst}
 use Rattle.first_reader.specs.ReadingNotes.{first_notes}
 use Rattle.rw_edge.specs.Files.{contents_of, Lacks, IfContents, IsLonger}
 use Rattle.rw_edge.specs.Count.{Faulted}
+use Rattle.rw_edge.specs.declared.error.ReadFault.{ReadFault}
+use Rattle.rw_edge.specs.declared.error.ReadFault.TheVariants as read
 use Rattle.verify_report.specs.declared.report.Report as reports
 use Rattle.verify_report.specs.Reports.{Report, seen, Files, nothing_read, IsFaultReport, invalid_report, OfFile, OfBytes, OfModule, OfFirst, noted, unbuilt_module}
 
@@ -183,3 +185,10 @@ second_not_read old mid new files after name limit long Next bytes slice less sa
     by (Some f) whole h =
         let S : List ℕ → Type 0 = λ c. Next f c nothing_read in
         file_read (Some f) name limit long Next bytes nothing_read whole le (subst S lent h)
+
+-- a file that was too long, or not read for another cause
+pub file_unread : {E : Type 0} (made : Result reports.Report E) (files : Option Files) (name : List ℕ) (limit : ℕ) (long : Report) (Next : Files → List ℕ → Report → Type 0) (fault : ReadFault) →
+    (fault ≡ read.TooLong → IsSome files → IsLonger files name limit) → IfOk made (λ r. (fault ≡ read.TooLong) × (seen r ≡ long)) →
+    IfOk made (λ r. IfSome files (λ f. OfFile limit long (Next f) (contents_of f name) (seen r)))
+file_unread (Ok r) files name limit long Next fault longer h = file_long files name limit long Next (seen r) (longer h.0) h.1
+file_unread (Err e) files name limit long Next fault longer h = tt

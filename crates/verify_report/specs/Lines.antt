@@ -1,10 +1,11 @@
 -- The lines of a report. They are this project's own.
-use Rattle.std.specs.Prelude.{ℕ, ◌+◌, ◌/◌, ◌%◌, List, [], ◌∷◌, ◌++◌, Option, Some, None, nat_lt, if◌then◌else◌, codes}
+use Rattle.std.specs.Prelude.{ℕ, List, [], ◌∷◌, ◌++◌, Option, Some, None, codes}
 use Rattle.std.specs.Fmt.{decimal}
 use Rattle.outline_check.specs.declared.answer.Reason.{Reason}
 use Rattle.outline_check.specs.declared.answer.Reason.TheVariants as reason
 use Rattle.wasm_values.specs.declared.limit.LimitWord.{LimitWord}
 use Rattle.wasm_values.specs.declared.limit.LimitWord.TheVariants as word
+use Rattle.wasm_values.specs.Places.{place_text}
 use Rattle.binary_grammar.specs.declared.fault.DecodeWord.{DecodeWord}
 use Rattle.binary_grammar.specs.declared.fault.DecodeWord.TheVariants as decode
 use Rattle.wasm_typing.specs.declared.fault.ValidWord.{ValidWord}
@@ -13,16 +14,6 @@ use Rattle.wasm_typing.specs.declared.fault.ValidWord.TheVariants as valid
 -- A line ends in one newline.
 abbrev pub line : List ℕ → List ℕ
 line text = text ++ 10 ∷ []
-
--- The lowest hexadecimal digit of a number, in lower case.
-abbrev pub hex_digit : ℕ → ℕ
-hex_digit n = if nat_lt (n % 16) 10 then 48 + n % 16 else 87 + n % 16
-
--- A place is printed as `0x` and eight hexadecimal digits.
-abbrev pub place_text : ℕ → List ℕ
-place_text at =
-    codes "0x" ++ hex_digit (at / 268435456) ∷ hex_digit (at / 16777216) ∷ hex_digit (at / 1048576) ∷ hex_digit (at / 65536)
-    ∷ hex_digit (at / 4096) ∷ hex_digit (at / 256) ∷ hex_digit (at / 16) ∷ hex_digit at ∷ []
 
 -- The words of reasons; that of a derivation has the number of its bad step.
 abbrev pub reason_text : Reason → List ℕ

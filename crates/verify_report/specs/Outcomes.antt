@@ -2,10 +2,11 @@
 use Rattle.std.specs.Io.KnownBytes.{Appends}
 use Rattle.std.specs.declared.string.String.{String}
 use Rattle.std.specs.declared.alloc.Global.{Global}
-use Rattle.std.specs.Prelude.{◌≡◌, ◌≤◌, ◌⊎◌, ℕ, map, take, string_bytes, List, length, Option}
+use Rattle.std.specs.Prelude.{◌≡◌, ◌≤◌, ◌⊎◌, ℕ, map, take, string_bytes, List, length, Option, IsSomeAnd, codes}
 use Rattle.verify_report.specs.declared.status.Status.{Status}
 use Rattle.verify_report.specs.declared.status.Status.TheVariants as status
-use Rattle.verify_report.specs.Reports.{Report}
+use Rattle.verify_report.specs.Reports.{Report, Command, Check, Show, Verify, command_of}
+use Rattle.verify_report.specs.Lines.{line}
 
 -- The texts of words.
 abbrev pub texts : List (String Global) → List (List ℕ)
@@ -42,3 +43,17 @@ abbrev pub Told : Status → (Report → Type 0) → Type 0 → Type 0 → Optio
 Told came Is read_fault write_fault old new =
     ((r : Report) × Is r × ((came ≡ r.status) ⊎ ((came ≡ status.WriteFault) × write_fault)) × Wrote came r.text old new) ⊎
     (((came ≡ status.OutOfMemory) ⊎ ((came ≡ status.ReadFault) × read_fault)) × (new ≡ old))
+
+-- A command that asks for a verdict on notes.
+abbrev pub IsVerify : Command → Type 0
+IsVerify (Check «module») = ⊥
+IsVerify (Show «module») = ⊥
+IsVerify (Verify «module» notes) = Unit {0}
+
+-- Words that ask for one.
+abbrev pub AskVerdict : List (List ℕ) → Type 0
+AskVerdict words = IsSomeAnd (command_of words) IsVerify
+
+-- The good verdict on notes.
+abbrev pub verified_text : List ℕ
+verified_text = line (codes "verified")

@@ -10,7 +10,7 @@ use Rattle.binary_grammar.specs.ModuleGrammar.{Spells, InLimits}
 use Rattle.binary_grammar.specs.Plans.{Fault}
 use Rattle.wasm_typing.specs.declared.fault.ValidWord.{ValidWord}
 use Rattle.wasm_typing.specs.Valid.{Valid, BytesInRange}
-use Rattle.wasm_typing.specs.Faults.{InvalidAt}
+use Rattle.wasm_typing.specs.faults.Faults.{InvalidAt}
 use Rattle.rw_edge.specs.Files.{contents_of}
 use Rattle.wasm_values.specs.declared.limit.LimitWord.TheVariants as word
 use Rattle.outline_check.specs.declared.notes.Notes.{Notes}

@@ -1,11 +1,12 @@
 // What each command reports.
 
-ghost use Rattle.std.specs.Prelude.{◌≡◌, ◌≤◌, ◌⊎◌, None, IfOk, IfSome, IsErrOf, IsSomeAnd};
+ghost use Rattle.std.specs.Prelude.{◌≡◌, ◌≤◌, ◌⊎◌, Some, None, IfOk, IfSome, IsErrOf, IsSomeAnd, option_map};
 ghost use Rattle.rw_edge.specs.Count.{Faulted};
 ghost use Rattle.rw_edge.specs.Files.{contents_of};
 ghost use Rattle.verify_report.specs.Lines.{limit_line};
-ghost use Rattle.verify_report.specs.Reports.{OfCheck, OfShow, OfNotes, OfVerify, IsReport, command_of, nothing_read, seen};
-ghost use Rattle.verify_report.specs.Outcomes.{IsSpoken, texts};
+ghost use Rattle.verify_report.specs.Reports.{OfCheck, OfShow, OfNotes, OfVerify, OfCommand, IsReport, command_of, nothing_read, seen};
+ghost use Rattle.verify_report.specs.Outcomes.{IsSpoken, IsVerify, AskVerdict, texts, verified_text};
+ghost use Rattle.verify_report.specs.words.Commands.{command_in};
 
 use crate::judge::judged;
 use crate::line::{limit_text, word_line};
@@ -13,7 +14,7 @@ use crate::report::{Report, Stop};
 use crate::stages::{checked, shown};
 use crate::status::Status;
 use rw_edge::{ReadFault, Shelf, read_file};
-use std::alloc::{AllocError, Global};
+use std::alloc::Global;
 use wasm_values::LimitWord;
 
 /// The most bytes of a module file.
@@ -22,17 +23,25 @@ const MODULE_LIMIT: usize = 4_194_304;
 /// The most bytes of a notes file.
 const NOTES_LIMIT: usize = 16_777_216;
 
-fn too_long(alloc: Global, word: LimitWord, limit: usize) -> Result<Report, AllocError>
-    ensures { IfOk result (λ r. seen r ≡ record { text = limit_line word limit; status = Status.Limit }) }
+// A file that was not read: too long, or another cause.
+fn unread(alloc: Global, fault: ReadFault, word: LimitWord, limit: usize) -> Result<Report, Stop>
+    ensures made { IfOk result (λ r. (fault ≡ ReadFault.TooLong) × (seen r ≡ record { text = limit_line word limit; status = Status.Limit })) }
+    ensures read { IsErrOf result Stop.Read → fault ≡ ReadFault.Failed }
+    ensures listed { IsErrOf result Stop.Words → ⊥ }
 {
-    Ok(Report {
-        text: word_line(alloc, b"limit", limit_text(word), limit)?,
-        status: Status::Limit,
-    })
+    match fault {
+        ReadFault::TooLong => Ok(Report {
+            text: word_line(alloc, b"limit", limit_text(word), limit)?,
+            status: Status::Limit,
+        }),
+        ReadFault::Failed => Err(Stop::Read),
+        ReadFault::OutOfMemory => Err(Stop::Memory),
+    }
 }
 
 // `check MODULE`: the module file and its length, and what it says.
 fn check<S: Shelf>(alloc: Global, module: &str, shelf: &mut S) -> Result<Report, Stop>
+    ensures files { S.files shelf.new ≡ S.files shelf.old }
     ensures no_lower { S.faults shelf.old ≤ S.faults shelf.new }
     ensures made { IfOk result (λ r. IfSome (S.files shelf.old) (λ files. OfCheck files «module».now (seen r))) }
     ensures read { IsErrOf result Stop.Read → Faulted (S.faults shelf.old) (S.faults shelf.new)
@@ -41,15 +50,14 @@ fn check<S: Shelf>(alloc: Global, module: &str, shelf: &mut S) -> Result<Report,
     ensures spoken { IfOk result (λ r. IsSpoken r.status) }
 {
     match read_file(alloc, shelf, module, MODULE_LIMIT) {
-        Ok(bytes) => checked(alloc, bytes.as_slice()),
-        Err(ReadFault::TooLong) => Ok(too_long(alloc, LimitWord::Module, MODULE_LIMIT)?),
-        Err(ReadFault::Failed) => Err(Stop::Read),
-        Err(ReadFault::OutOfMemory) => Err(Stop::Memory),
+        Ok(bytes) => Ok(checked(alloc, bytes.as_slice())?),
+        Err(fault) => unread(alloc, fault, LimitWord::Module, MODULE_LIMIT),
     }
 }
 
 // `show MODULE`: the module file and its length, and its listing.
 fn show<S: Shelf>(alloc: Global, module: &str, shelf: &mut S) -> Result<Report, Stop>
+    ensures files { S.files shelf.new ≡ S.files shelf.old }
     ensures no_lower { S.faults shelf.old ≤ S.faults shelf.new }
     ensures made { IfOk result (λ r. IfSome (S.files shelf.old) (λ files. OfShow files «module».now (seen r))) }
     ensures read { IsErrOf result Stop.Read → Faulted (S.faults shelf.old) (S.faults shelf.new)
@@ -58,10 +66,8 @@ fn show<S: Shelf>(alloc: Global, module: &str, shelf: &mut S) -> Result<Report, 
     ensures spoken { IfOk result (λ r. IsSpoken r.status) }
 {
     match read_file(alloc, shelf, module, MODULE_LIMIT) {
-        Ok(bytes) => shown(alloc, bytes.as_slice()),
-        Err(ReadFault::TooLong) => Ok(too_long(alloc, LimitWord::Module, MODULE_LIMIT)?),
-        Err(ReadFault::Failed) => Err(Stop::Read),
-        Err(ReadFault::OutOfMemory) => Err(Stop::Memory),
+        Ok(bytes) => Ok(shown(alloc, bytes.as_slice())?),
+        Err(fault) => unread(alloc, fault, LimitWord::Module, MODULE_LIMIT),
     }
 }
 
@@ -72,25 +78,27 @@ fn with_notes<S: Shelf>(
     notes: &str,
     shelf: &mut S,
 ) -> Result<Report, Stop>
+    ensures files { S.files shelf.new ≡ S.files shelf.old }
     ensures no_lower { S.faults shelf.old ≤ S.faults shelf.new }
     ensures made { IfOk result (λ r. IfSome (S.files shelf.old) (λ files. OfNotes bytes.now (contents_of files notes.now) (seen r))) }
+    ensures verified { IfOk result (λ r. r.status ≡ Status.Good → r.text.items ≡ verified_text) }
     ensures read { IsErrOf result Stop.Read → Faulted (S.faults shelf.old) (S.faults shelf.new)
         ⊎ IsSomeAnd (S.files shelf.old) (λ files. OfNotes bytes.now (contents_of files notes.now) nothing_read) }
     ensures listed { IsErrOf result Stop.Words → ⊥ }
     ensures spoken { IfOk result (λ r. IsSpoken r.status) }
 {
     match read_file(alloc, shelf, notes, NOTES_LIMIT) {
-        Ok(notes) => judged(alloc, bytes, notes.as_slice()),
-        Err(ReadFault::TooLong) => Ok(too_long(alloc, LimitWord::Notes, NOTES_LIMIT)?),
-        Err(ReadFault::Failed) => Err(Stop::Read),
-        Err(ReadFault::OutOfMemory) => Err(Stop::Memory),
+        Ok(notes) => Ok(judged(alloc, bytes, notes.as_slice())?),
+        Err(fault) => unread(alloc, fault, LimitWord::Notes, NOTES_LIMIT),
     }
 }
 
 // `verify MODULE NOTES`: the module file and its length, and then the notes.
 fn verify<S: Shelf>(alloc: Global, module: &str, notes: &str, shelf: &mut S) -> Result<Report, Stop>
+    ensures files { S.files shelf.new ≡ S.files shelf.old }
     ensures no_lower { S.faults shelf.old ≤ S.faults shelf.new }
     ensures made { IfOk result (λ r. IfSome (S.files shelf.old) (λ files. OfVerify files «module».now notes.now (seen r))) }
+    ensures verified { IfOk result (λ r. r.status ≡ Status.Good → r.text.items ≡ verified_text) }
     ensures read { IsErrOf result Stop.Read → Faulted (S.faults shelf.old) (S.faults shelf.new)
         ⊎ IsSomeAnd (S.files shelf.old) (λ files. OfVerify files «module».now notes.now nothing_read) }
     ensures listed { IsErrOf result Stop.Words → ⊥ }
@@ -98,39 +106,64 @@ fn verify<S: Shelf>(alloc: Global, module: &str, notes: &str, shelf: &mut S) -> 
 {
     match read_file(alloc, shelf, module, MODULE_LIMIT) {
         Ok(bytes) => with_notes(alloc, bytes.as_slice(), notes, shelf),
-        Err(ReadFault::TooLong) => Ok(too_long(alloc, LimitWord::Module, MODULE_LIMIT)?),
-        Err(ReadFault::Failed) => Err(Stop::Read),
-        Err(ReadFault::OutOfMemory) => Err(Stop::Memory),
+        Err(fault) => unread(alloc, fault, LimitWord::Module, MODULE_LIMIT),
+    }
+}
+
+// What words of a listed form ask for.
+#[derive(Clone, Copy)]
+enum Asked<'a> {
+    Check(&'a str),
+    Show(&'a str),
+    Verify(&'a str, &'a str),
+}
+
+// The command that words are, if they have a listed form.
+fn asked_by(words: &[String]) -> Option<Asked<'_>>
+    ensures { option_map command_in result ≡ command_of (texts words.now) }
+{
+    match words {
+        [word, module] if word.as_str() == "check" => Some(Asked::Check(module.as_str())),
+        [word, module] if word.as_str() == "show" => Some(Asked::Show(module.as_str())),
+        [word, module, notes] if word.as_str() == "verify" => {
+            Some(Asked::Verify(module.as_str(), notes.as_str()))
+        }
+        _ => None,
+    }
+}
+
+// The report that a command asks for.
+fn done<S: Shelf>(alloc: Global, command: Asked<'_>, shelf: &mut S) -> Result<Report, Stop>
+    ensures files { S.files shelf.new ≡ S.files shelf.old }
+    ensures no_lower { S.faults shelf.old ≤ S.faults shelf.new }
+    ensures made { IfOk result (λ r. IfSome (S.files shelf.old) (λ files. OfCommand files (Some (command_in command.entry)) (seen r))) }
+    ensures verified { IfOk result (λ r. IsVerify (command_in command.entry) → r.status ≡ Status.Good → r.text.items ≡ verified_text) }
+    ensures read { IsErrOf result Stop.Read → Faulted (S.faults shelf.old) (S.faults shelf.new)
+        ⊎ IsSomeAnd (S.files shelf.old) (λ files. OfCommand files (Some (command_in command.entry)) nothing_read) }
+    ensures listed { IsErrOf result Stop.Words → ⊥ }
+    ensures spoken { IfOk result (λ r. IsSpoken r.status) }
+{
+    match command {
+        Asked::Check(module) => check(alloc, module, shelf),
+        Asked::Show(module) => show(alloc, module, shelf),
+        Asked::Verify(module, notes) => verify(alloc, module, notes, shelf),
     }
 }
 
 /// The report that the words ask for. It takes no memory where they have no listed form.
 pub fn reported<S: Shelf>(alloc: Global, words: &Vec<String>, shelf: &mut S) -> Result<Report, Stop>
+    ensures files { S.files shelf.new ≡ S.files shelf.old }
     ensures no_lower { S.faults shelf.old ≤ S.faults shelf.new }
     ensures refused { command_of (texts words.now.items) ≡ None → IsErrOf result Stop.Words }
     ensures words { IsErrOf result Stop.Words → command_of (texts words.now.items) ≡ None }
     ensures made { IfOk result (λ r. IfSome (S.files shelf.old) (λ files. IsReport (texts words.now.items) files (seen r))) }
+    ensures verified { AskVerdict (texts words.now.items) → IfOk result (λ r. r.status ≡ Status.Good → r.text.items ≡ verified_text) }
     ensures read { IsErrOf result Stop.Read → Faulted (S.faults shelf.old) (S.faults shelf.new)
         ⊎ IsSomeAnd (S.files shelf.old) (λ files. IsReport (texts words.now.items) files nothing_read) }
     ensures spoken { IfOk result (λ r. IsSpoken r.status) }
 {
-    match words.as_slice() {
-        [word, module] => {
-            if word.as_str() == "check" {
-                check(alloc, module.as_str(), shelf)
-            } else if word.as_str() == "show" {
-                show(alloc, module.as_str(), shelf)
-            } else {
-                Err(Stop::Words)
-            }
-        }
-        [word, module, notes] => {
-            if word.as_str() == "verify" {
-                verify(alloc, module.as_str(), notes.as_str(), shelf)
-            } else {
-                Err(Stop::Words)
-            }
-        }
-        _ => Err(Stop::Words),
+    match asked_by(words.as_slice()) {
+        Some(command) => done(alloc, command, shelf),
+        None => Err(Stop::Words),
     }
 }

@@ -1,15 +1,15 @@
 // What is said of a module by notes.
 
-ghost use Rattle.std.specs.Prelude.{◌≡◌, IfOk, IfErr};
+ghost use Rattle.std.specs.Prelude.{◌≡◌, IfOk};
 ghost use Rattle.outline_check.specs.Outlines.{outline};
 ghost use Rattle.outline_check.specs.First.{IsFirst};
 ghost use Rattle.first_reader.specs.ReadingNotes.{first_notes};
-ghost use Rattle.wasm_typing.specs.Faults.{Marked};
+ghost use Rattle.wasm_typing.specs.faults.Faults.{Marked};
 ghost use Rattle.verify_report.specs.Reports.{OfFirst, OfModule, OfJudged, seen, outlined, noted};
 ghost use Rattle.verify_report.specs.Outcomes.{IsSpoken};
 
 use crate::line::{failed_line, limit_text, word_line};
-use crate::report::{Report, Stop, fixed, negative};
+use crate::report::{Report, fixed, negative};
 use crate::stages::{faulty, invalid};
 use crate::status::Status;
 use binary_grammar::Decoded;
@@ -17,8 +17,9 @@ use first_reader::{ReadError, is_first, read_notes};
 use outline_check::{Answer, CheckFault, Notes, check_module};
 use std::alloc::Global;
 use wasm_binary::decode;
-use wasm_syntax::Marks;
+use wasm_syntax::{Marks, Module};
 use wasm_validate::{ValidFault, ValidModule, validate};
+use wasm_values::OutOfMemory;
 
 // The outline.
 fn outlined(
@@ -26,11 +27,10 @@ fn outlined(
     module: &ValidModule,
     marks: &Marks,
     notes: &Notes,
-) -> Result<Report, Stop>
+) -> Result<Report, OutOfMemory>
     requires first { IsFirst «module».now }
     requires marked { Marked «module».now marks.now }
     ensures made { IfOk result (λ r. seen r ≡ outlined (outline «module».now marks.now notes.now)) }
-    ensures memory { IfErr result (λ stop. stop ≡ Stop.Memory) }
     ensures spoken { IfOk result (λ r. IsSpoken r.status) }
 {
     match check_module(alloc, module, notes, marks) {
@@ -49,22 +49,26 @@ fn outlined(
             text: word_line(alloc, b"limit", limit_text(word), at)?,
             status: Status::Limit,
         }),
-        Err(CheckFault::OutOfMemory) => Err(Stop::Memory),
+        Err(CheckFault::OutOfMemory) => Err(OutOfMemory),
     }
 }
 
 // The notes, and then the outline.
-fn noted(alloc: Global, module: &ValidModule, marks: &Marks, notes: &[u8]) -> Result<Report, Stop>
+fn noted(
+    alloc: Global,
+    module: &ValidModule,
+    marks: &Marks,
+    notes: &[u8],
+) -> Result<Report, OutOfMemory>
     requires first { IsFirst «module».now }
     requires marked { Marked «module».now marks.now }
     ensures made { IfOk result (λ r. seen r ≡ noted «module».now marks.now (first_notes notes.now)) }
-    ensures memory { IfErr result (λ stop. stop ≡ Stop.Memory) }
     ensures spoken { IfOk result (λ r. IsSpoken r.status) }
 {
     match read_notes(alloc, notes) {
         Ok(notes) => outlined(alloc, module, marks, &notes),
         Err(ReadError::OtherForm) => fixed(alloc, b"unbuilt notes\n", Status::Negative),
-        Err(ReadError::Memory) => Err(Stop::Memory),
+        Err(ReadError::Memory) => Err(OutOfMemory),
     }
 }
 
@@ -74,10 +78,9 @@ fn judged_valid(
     module: &ValidModule,
     marks: &Marks,
     notes: &[u8],
-) -> Result<Report, Stop>
+) -> Result<Report, OutOfMemory>
     requires { Marked «module».now marks.now }
     ensures made { IfOk result (λ r. OfFirst notes.now «module».now marks.now (seen r)) }
-    ensures memory { IfErr result (λ stop. stop ≡ Stop.Memory) }
     ensures spoken { IfOk result (λ r. IsSpoken r.status) }
 {
     if is_first(module) {
@@ -88,24 +91,36 @@ fn judged_valid(
 }
 
 // Whether a module is valid, and then what the notes say of it.
-fn judged_module(alloc: Global, decoded: Decoded, notes: &[u8]) -> Result<Report, Stop>
-    requires { Marked decoded.module decoded.marks }
-    ensures made { IfOk result (λ r. OfModule (OfFirst notes.now) decoded.module decoded.marks (seen r)) }
-    ensures memory { IfErr result (λ stop. stop ≡ Stop.Memory) }
+fn judged_parts(
+    alloc: Global,
+    module: Module,
+    marks: &Marks,
+    notes: &[u8],
+) -> Result<Report, OutOfMemory>
+    requires { Marked «module» marks.now }
+    ensures made { IfOk result (λ r. OfModule (OfFirst notes.now) «module» marks.now (seen r)) }
     ensures spoken { IfOk result (λ r. IsSpoken r.status) }
 {
-    let Decoded { module, marks } = decoded;
-    match validate(alloc, module, &marks) {
-        Ok(valid) => judged_valid(alloc, &valid, &marks, notes),
+    match validate(alloc, module, marks) {
+        Ok(valid) => judged_valid(alloc, &valid, marks, notes),
         Err(ValidFault::Invalid { at, word }) => invalid(alloc, at, word),
-        Err(ValidFault::OutOfMemory) => Err(Stop::Memory),
+        Err(ValidFault::OutOfMemory) => Err(OutOfMemory),
     }
 }
 
+// The same of a module with its marks.
+fn judged_module(alloc: Global, decoded: Decoded, notes: &[u8]) -> Result<Report, OutOfMemory>
+    requires { Marked decoded.module decoded.marks }
+    ensures made { IfOk result (λ r. OfModule (OfFirst notes.now) decoded.module decoded.marks (seen r)) }
+    ensures spoken { IfOk result (λ r. IsSpoken r.status) }
+{
+    let Decoded { module, marks } = decoded;
+    judged_parts(alloc, module, &marks, notes)
+}
+
 /// Whether the notes verify the module that bytes spell.
-pub fn judged(alloc: Global, bytes: &[u8], notes: &[u8]) -> Result<Report, Stop>
+pub fn judged(alloc: Global, bytes: &[u8], notes: &[u8]) -> Result<Report, OutOfMemory>
     ensures made { IfOk result (λ r. OfJudged bytes.now notes.now (seen r)) }
-    ensures memory { IfErr result (λ stop. stop ≡ Stop.Memory) }
     ensures spoken { IfOk result (λ r. IsSpoken r.status) }
 {
     match decode(alloc, bytes) {

@@ -1,37 +1,13 @@
 // The lines of a report.
 
-ghost use Rattle.std.specs.Prelude.{◌≡◌, ◌++◌, ◌∷◌, [], ◌/◌, OnOk, IfOk};
-ghost use Rattle.verify_report.specs.Lines.{hex_digit, place_text, reason_text, limit_text, decode_text, valid_text, function_text, failed_line, word_line};
+ghost use Rattle.std.specs.Prelude.{◌≡◌, ◌++◌, ◌∷◌, [], OnOk, IfOk};
+ghost use Rattle.verify_report.specs.Lines.{reason_text, limit_text, decode_text, valid_text, function_text, failed_line, word_line};
 
 use binary_grammar::DecodeWord;
 use outline_check::Reason;
 use std::alloc::{AllocError, Global};
 use wasm_validate::ValidWord;
-use wasm_values::LimitWord;
-
-fn hex_digit(n: usize) -> u8
-    ensures { result ≡ hex_digit n }
-{
-    let digit = (n % 16) as u8;
-    if digit < 10 { 48 + digit } else { 87 + digit }
-}
-
-fn push_place(text: &mut Vec<u8>, at: usize) -> Result<(), AllocError>
-    ensures { OnOk result (text.new.items ≡ text.old.items ++ place_text at) }
-{
-    text.extend_from_slice(&[
-        b'0',
-        b'x',
-        hex_digit(at / 268_435_456),
-        hex_digit(at / 16_777_216),
-        hex_digit(at / 1_048_576),
-        hex_digit(at / 65_536),
-        hex_digit(at / 4_096),
-        hex_digit(at / 256),
-        hex_digit(at / 16),
-        hex_digit(at),
-    ])
-}
+use wasm_values::{LimitWord, place_text};
 
 fn push_reason(alloc: Global, text: &mut Vec<u8>, reason: Reason) -> Result<(), AllocError>
     ensures { OnOk result (text.new.items ≡ text.old.items ++ reason_text reason) }
@@ -138,7 +114,7 @@ pub fn failed_line(
     let mut text = Vec::from_slice(alloc, b"failed: ")?;
     push_reason(alloc, &mut text, reason)?;
     text.extend_from_slice(b" at ")?;
-    push_place(&mut text, at)?;
+    text.extend_from_slice(&place_text(at))?;
     push_function(alloc, &mut text, function)?;
     text.push(b'\n')?;
     Ok(text)
@@ -152,7 +128,7 @@ pub fn word_line(alloc: Global, cause: &[u8], word: &[u8], at: usize) -> Result<
     text.extend_from_slice(b": ")?;
     text.extend_from_slice(word)?;
     text.extend_from_slice(b" at ")?;
-    push_place(&mut text, at)?;
+    text.extend_from_slice(&place_text(at))?;
     text.push(b'\n')?;
     Ok(text)
 }

@@ -1,9 +1,10 @@
-ghost use Rattle.std.specs.Prelude.{◌≡◌, IfOk, IfErr};
+ghost use Rattle.std.specs.Prelude.{◌≡◌, IfOk};
 ghost use Rattle.verify_report.specs.Reports.{seen};
 ghost use Rattle.verify_report.specs.Outcomes.{IsSpoken};
 
 use crate::status::Status;
 use std::alloc::{AllocError, Global};
+use thiserror::Error;
 use wasm_values::OutOfMemory;
 
 /// What a run writes, and what it comes to.
@@ -14,21 +15,14 @@ pub struct Report {
 }
 
 /// Why a run has no report.
-#[derive(Clone, Copy, Debug, PartialEq, Eq)]
+#[derive(Clone, Copy, Debug, Error)]
 pub enum Stop {
+    #[error("words of no listed form")]
     Words,
+    #[error("a file could not be read")]
     Read,
+    #[error("out of memory")]
     Memory,
-}
-
-impl From<AllocError> for Stop {
-    ghost use Rattle.verify_report.specs.declared.report.Stop.TheVariants.{Memory};
-
-    ghost from_gives = { λ _ stop. stop ≡ Memory };
-
-    fn from(_: AllocError) -> Stop {
-        Stop::Memory
-    }
 }
 
 impl From<OutOfMemory> for Stop {
@@ -41,11 +35,20 @@ impl From<OutOfMemory> for Stop {
     }
 }
 
+impl From<AllocError> for Stop {
+    ghost use Rattle.verify_report.specs.declared.report.Stop.TheVariants.{Memory};
+
+    ghost from_gives = { λ _ stop. stop ≡ Memory };
+
+    fn from(_: AllocError) -> Stop {
+        Stop::Memory
+    }
+}
+
 /// A report of one line that never differs.
-pub fn fixed(alloc: Global, text: &[u8], status: Status) -> Result<Report, Stop>
+pub fn fixed(alloc: Global, text: &[u8], status: Status) -> Result<Report, OutOfMemory>
     requires { IsSpoken status }
     ensures made { IfOk result (λ r. seen r ≡ record { text = text.now; status = status }) }
-    ensures memory { IfErr result (λ stop. stop ≡ Stop.Memory) }
     ensures spoken { IfOk result (λ r. IsSpoken r.status) }
 {
     Ok(Report {

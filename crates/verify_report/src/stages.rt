@@ -1,23 +1,24 @@
 // What is said of bytes, and of the module that they spell.
 
-ghost use Rattle.std.specs.Prelude.{◌≡◌, IfOk, IfErr};
+ghost use Rattle.std.specs.Prelude.{◌≡◌, IfOk};
 ghost use Rattle.verify_report.specs.Reports.{IsFaultReport, OfModule, OfChecked, OfShown, invalid_report, module_valid, module_listed, seen};
 ghost use Rattle.verify_report.specs.Outcomes.{IsSpoken};
-ghost use Rattle.wasm_typing.specs.Faults.{Marked};
+ghost use Rattle.wasm_typing.specs.faults.Faults.{Marked};
 
 use crate::line::{decode_text, limit_text, valid_text, word_line};
-use crate::report::{Report, Stop, fixed, negative};
+use crate::report::{Report, fixed, negative};
 use crate::status::Status;
 use binary_grammar::{DecodeFault, Decoded};
 use module_listing::listing;
 use std::alloc::Global;
 use wasm_binary::decode;
-use wasm_validate::{ValidFault, ValidWord, validate};
+use wasm_syntax::{Marks, Module};
+use wasm_validate::{ValidFault, ValidModule, ValidWord, validate};
+use wasm_values::OutOfMemory;
 
 /// The bytes' fault.
-pub fn faulty(alloc: Global, fault: DecodeFault) -> Result<Report, Stop>
+pub fn faulty(alloc: Global, fault: DecodeFault) -> Result<Report, OutOfMemory>
     ensures made { IfOk result (λ r. IsFaultReport fault (seen r)) }
-    ensures memory { IfErr result (λ stop. stop ≡ Stop.Memory) }
     ensures spoken { IfOk result (λ r. IsSpoken r.status) }
 {
     match fault {
@@ -29,39 +30,53 @@ pub fn faulty(alloc: Global, fault: DecodeFault) -> Result<Report, Stop>
             text: word_line(alloc, b"limit", limit_text(word), at)?,
             status: Status::Limit,
         }),
-        DecodeFault::OutOfMemory => Err(Stop::Memory),
+        DecodeFault::OutOfMemory => Err(OutOfMemory),
     }
 }
 
 /// A module's first fault.
-pub fn invalid(alloc: Global, at: usize, word: ValidWord) -> Result<Report, Stop>
+pub fn invalid(alloc: Global, at: usize, word: ValidWord) -> Result<Report, OutOfMemory>
     ensures made { IfOk result (λ r. seen r ≡ invalid_report at word) }
-    ensures memory { IfErr result (λ stop. stop ≡ Stop.Memory) }
     ensures spoken { IfOk result (λ r. IsSpoken r.status) }
 {
     let text = word_line(alloc, b"invalid", valid_text(word), at)?;
     Ok(negative(text))
 }
 
-// Whether a module is valid.
-fn checked_module(alloc: Global, decoded: Decoded) -> Result<Report, Stop>
-    requires { Marked decoded.module decoded.marks }
-    ensures made { IfOk result (λ r. OfModule (λ m k r. r ≡ module_valid) decoded.module decoded.marks (seen r)) }
-    ensures memory { IfErr result (λ stop. stop ≡ Stop.Memory) }
+// What is said of a valid module.
+fn accepted(alloc: Global, _valid: &ValidModule) -> Result<Report, OutOfMemory>
+    ensures made { IfOk result (λ r. seen r ≡ module_valid) }
     ensures spoken { IfOk result (λ r. IsSpoken r.status) }
 {
-    let Decoded { module, marks } = decoded;
-    match validate(alloc, module, &marks) {
-        Ok(_) => fixed(alloc, b"valid\n", Status::Good),
+    fixed(alloc, b"valid\n", Status::Good)
+}
+
+// Whether a module is valid.
+fn checked_parts(alloc: Global, module: Module, marks: &Marks) -> Result<Report, OutOfMemory>
+    requires { Marked «module» marks.now }
+    ensures made { IfOk result (λ r. OfModule (λ m k r. r ≡ module_valid) «module» marks.now (seen r)) }
+    ensures spoken { IfOk result (λ r. IsSpoken r.status) }
+{
+    match validate(alloc, module, marks) {
+        Ok(valid) => accepted(alloc, &valid),
         Err(ValidFault::Invalid { at, word }) => invalid(alloc, at, word),
-        Err(ValidFault::OutOfMemory) => Err(Stop::Memory),
+        Err(ValidFault::OutOfMemory) => Err(OutOfMemory),
     }
 }
 
+// The same of a module with its marks.
+fn checked_module(alloc: Global, decoded: Decoded) -> Result<Report, OutOfMemory>
+    requires { Marked decoded.module decoded.marks }
+    ensures made { IfOk result (λ r. OfModule (λ m k r. r ≡ module_valid) decoded.module decoded.marks (seen r)) }
+    ensures spoken { IfOk result (λ r. IsSpoken r.status) }
+{
+    let Decoded { module, marks } = decoded;
+    checked_parts(alloc, module, &marks)
+}
+
 /// Whether bytes spell a valid module.
-pub fn checked(alloc: Global, bytes: &[u8]) -> Result<Report, Stop>
+pub fn checked(alloc: Global, bytes: &[u8]) -> Result<Report, OutOfMemory>
     ensures made { IfOk result (λ r. OfChecked bytes.now (seen r)) }
-    ensures memory { IfErr result (λ stop. stop ≡ Stop.Memory) }
     ensures spoken { IfOk result (λ r. IsSpoken r.status) }
 {
     match decode(alloc, bytes) {
@@ -71,10 +86,9 @@ pub fn checked(alloc: Global, bytes: &[u8]) -> Result<Report, Stop>
 }
 
 // The listing of a module.
-fn listed(alloc: Global, decoded: &Decoded) -> Result<Report, Stop>
+fn listed(alloc: Global, decoded: &Decoded) -> Result<Report, OutOfMemory>
     requires { Marked decoded.now.module decoded.now.marks }
     ensures made { IfOk result (λ r. seen r ≡ module_listed decoded.now.module decoded.now.marks) }
-    ensures memory { IfErr result (λ stop. stop ≡ Stop.Memory) }
     ensures spoken { IfOk result (λ r. IsSpoken r.status) }
 {
     let text = listing(alloc, &decoded.module, &decoded.marks)?;
@@ -84,14 +98,22 @@ fn listed(alloc: Global, decoded: &Decoded) -> Result<Report, Stop>
     })
 }
 
+// The listing of a module, which is dropped then.
+fn shown_module(alloc: Global, decoded: Decoded) -> Result<Report, OutOfMemory>
+    requires { Marked decoded.module decoded.marks }
+    ensures made { IfOk result (λ r. seen r ≡ module_listed decoded.module decoded.marks) }
+    ensures spoken { IfOk result (λ r. IsSpoken r.status) }
+{
+    listed(alloc, &decoded)
+}
+
 /// The listing of the module that bytes spell.
-pub fn shown(alloc: Global, bytes: &[u8]) -> Result<Report, Stop>
+pub fn shown(alloc: Global, bytes: &[u8]) -> Result<Report, OutOfMemory>
     ensures made { IfOk result (λ r. OfShown bytes.now (seen r)) }
-    ensures memory { IfErr result (λ stop. stop ≡ Stop.Memory) }
     ensures spoken { IfOk result (λ r. IsSpoken r.status) }
 {
     match decode(alloc, bytes) {
-        Ok(decoded) => listed(alloc, &decoded),
+        Ok(decoded) => shown_module(alloc, decoded),
         Err(fault) => faulty(alloc, fault),
     }
 }

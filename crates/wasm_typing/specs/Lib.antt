@@ -1,4 +1,3 @@
 pub mod Typing
-pub mod Open
 pub mod Valid
-pub mod Faults
+pub mod faults

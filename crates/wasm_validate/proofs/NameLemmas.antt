@@ -11,7 +11,7 @@ use Rattle.std.proofs.lemmas.List.{take_more, map_push}
 use Rattle.std.proofs.lemmas.List.Folds.{list_any-append}
 use Rattle.std.proofs.lemmas.Map.Text.{is_eq-slice_cmp}
 use Rattle.wasm_typing.specs.declared.fault.ValidWord.TheVariants as word
-use Rattle.wasm_validate.specs.Names.{HasTexts}
+use Rattle.wasm_validate.specs.words.Names.{HasTexts}
 
 pub none_seen : (set : BTreeSet (Bor (List ℕ))) → set.keys ≡ [] → HasTexts set []
 none_seen set e text = ap (list_any (is_at (λ (k : Bor (List ℕ)). slice_cmp nat_cmp text.now k.now))) e

@@ -25,9 +25,9 @@ use Rattle.wasm_typing.specs.declared.fault.ValidWord.{ValidWord}
 use Rattle.wasm_typing.specs.declared.fault.ValidWord.TheVariants as word
 use Rattle.wasm_typing.specs.declared.fault.ValidFault.{ValidFault}
 use Rattle.wasm_typing.specs.declared.fault.ValidFault.TheVariants as fault
-use Rattle.body_check.specs.Answers.{Answers}
+use Rattle.body_check.specs.words.Answers.{Answers}
 use Rattle.wasm_typing.specs.Valid.{type_at, context_of, table_import, memory_import, func_types_of, funcs_of, tables_of, memories_of, globals_of, imported_globals_of, const_type, TypeValid, TableValid, MemoryValid, ImportValid, GlobalValid, ExportValid, AreApart, StartValid, ElemValid, SegmentValid, FuncValid, PartsValid, Valid}
-use Rattle.wasm_typing.specs.Faults.{Condition, condition, type_fault, import_fault, func_fault, module_table_fault, module_memory_fault, global_fault, names_one, export_fault, is_empty_type, start_fault, elem_fault, segment_fault, has_type, NoFault, HasNoFault, BodiesValid, FirstFault, StartFault, CodeFault, InvalidAt}
+use Rattle.wasm_typing.specs.faults.Faults.{Condition, condition, type_fault, import_fault, func_fault, module_table_fault, module_memory_fault, global_fault, names_one, export_fault, is_empty_type, start_fault, elem_fault, segment_fault, has_type, NoFault, HasNoFault, BodiesValid, FirstFault, StartFault, CodeFault, InvalidAt}
 use Rattle.body_check.proofs.ActLemmas.{first_holds, rest_holds, both_hold, lt_from, lt_to, same_type_to, same_type_self}
 use Rattle.wasm_validate.proofs.ValidLemmas.{all_from, none_from, type_valid, type_none, func_valid, func_none, row_valid, row_none, table_valid, table_none, memory_valid, memory_none, one_table, one_memory, to_zero}
 use Rattle.body_check.proofs.PrefixLemmas.{typed_through}

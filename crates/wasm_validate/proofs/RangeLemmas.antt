@@ -10,8 +10,8 @@ use Rattle.wasm_syntax.specs.Trees.{instruction_of, sequence_of}
 use Rattle.wasm_syntax.specs.Parts.{Part, closed_part, instr_of}
 use Rattle.wasm_syntax.proofs.TreeLaws.{instruction_of-Block, instruction_of-Loop, instruction_of-If, instruction_of-IfElse}
 use Rattle.wasm_typing.specs.Valid.{InstructionInRange, SequenceInRange}
-use Rattle.wasm_typing.specs.Open.{parts_before}
-use Rattle.body_check.specs.Walks.{then_inner, ItemInRange}
+use Rattle.wasm_typing.specs.faults.Open.{parts_before}
+use Rattle.body_check.specs.words.Walks.{then_inner, ItemInRange}
 use Rattle.body_check.proofs.BodyLemmas.{first_parts, next_parts, whole_parts}
 
 abbrev pub FirstInRange : Option (List Instr) → Type 0

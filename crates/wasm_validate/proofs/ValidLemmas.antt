@@ -15,8 +15,9 @@ use Rattle.wasm_syntax.specs.declared.module.Module.{Module}
 use Rattle.wasm_typing.specs.declared.fault.ValidWord.{ValidWord}
 use Rattle.wasm_typing.specs.declared.fault.ValidWord.TheVariants as word
 use Rattle.wasm_typing.specs.Valid.{func_import, table_import, memory_import, tables_of, memories_of, TypeValid, TableValid, MemoryValid, ImportValid}
-use Rattle.wasm_typing.specs.Faults.{condition, type_fault, table_fault, memory_fault, import_row, import_fault, func_fault, module_table_fault, module_memory_fault, is_at_most, is_within, are_pages, NoFault}
-use Rattle.body_check.specs.Answers.{HasTypes}
+use Rattle.wasm_typing.specs.faults.Faults.{condition, type_fault, table_fault, memory_fault, import_row, import_fault, func_fault, module_table_fault, module_memory_fault, is_within, are_pages, NoFault}
+use Rattle.wasm_values.specs.Types.{is_at_most}
+use Rattle.body_check.specs.words.Answers.{HasTypes}
 use Rattle.body_check.proofs.ActLemmas.{first_holds, rest_holds, both_hold, lt_from, lt_to, le_from, le_to}
 
 pub all_from : {X : Type 0} (fault : ℕ → X → Option ValidWord) (P : X → Type 0) (xs : List X) → ((n : ℕ) (x : X) → fault n x ≡ None → P x) → NoFault fault xs → All P xs

@@ -2,8 +2,8 @@
 
 ghost use Rattle.std.specs.Prelude.{◌≡◌, ◌≤◌, length, IfSome};
 ghost use Rattle.wasm_typing.specs.Valid.{tables_of, memories_of};
-ghost use Rattle.wasm_typing.specs.Faults.{Marked, InvalidAt, HasNoFault};
-ghost use Rattle.body_check.specs.Answers.{Answers, IsScopeOf};
+ghost use Rattle.wasm_typing.specs.faults.Faults.{Marked, InvalidAt, HasNoFault};
+ghost use Rattle.body_check.specs.words.Answers.{Answers, IsScopeOf};
 
 use crate::sections;
 use body_check::{check_bodies, imported_memories, imported_tables, scope_of};

@@ -2,6 +2,7 @@
 #![tactic(auto)]
 
 mod check;
+mod entries;
 mod ranges;
 mod rows;
 mod sections;

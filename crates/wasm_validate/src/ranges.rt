@@ -10,14 +10,14 @@ ghost use Rattle.wasm_syntax.specs.declared.module.Custom.{Custom};
 ghost use Rattle.wasm_syntax.specs.declared.module.Global.{Global};
 ghost use Rattle.wasm_syntax.specs.declared.module.Elem.{Elem};
 ghost use Rattle.wasm_syntax.specs.declared.module.Segment.{Segment};
-ghost use Rattle.wasm_syntax.specs.FlatForm.{is_simple};
+ghost use Rattle.wasm_syntax.specs.Items.{instr_seen};
 ghost use Rattle.wasm_syntax.specs.Trees.{instruction_of, sequence_of};
 ghost use Rattle.wasm_typing.specs.Valid.{const_type, IsWord, ValInRange, InstructionInRange, SequenceInRange, LimitsInRange, BytesInRange, ImportInRange, ExportInRange, InRange, GlobalValid, ElemValid, SegmentValid, PartsValid};
-ghost use Rattle.body_check.specs.Walks.{IsOneSimple, ItemInRange};
+ghost use Rattle.body_check.specs.words.Walks.{IsOneSimple, ItemInRange};
 
 use wasm_syntax::{
-    Code, Custom, Elem, Export, ExportKind, Flat, Func, Import, ImportKind, Instr, Limits, Module,
-    Segment,
+    Code, Custom, Elem, Export, ExportKind, Func, Import, ImportKind, Instr, Item, Limits, Module,
+    Seen, Segment, Simple,
 };
 use wasm_values::{Bytes, List, Text, Val};
 
@@ -110,43 +110,42 @@ fn read_const(instrs: &[Instr])
     }
 }
 
-fn read_instr(instr: &Instr)
-    requires { IsTrue (is_simple instr.now) }
-    ensures { InstructionInRange (instruction_of instr.now) }
+fn read_instr(instr: Simple<'_>)
+    ensures { InstructionInRange (instruction_of (instr_seen instr.entry)) }
 {
     match instr {
-        Instr::Const(value) => read_value(*value),
-        Instr::LocalGet(x) | Instr::LocalSet(x) | Instr::LocalTee(x) => {
-            let _x = *x;
+        Simple::Const(value) => read_value(value),
+        Simple::LocalGet(x) | Simple::LocalSet(x) | Simple::LocalTee(x) => {
+            let _x = x;
         }
-        Instr::GlobalGet(x) | Instr::GlobalSet(x) => {
-            let _x = *x;
+        Simple::GlobalGet(x) | Simple::GlobalSet(x) => {
+            let _x = x;
         }
-        Instr::Load(_, align, offset) | Instr::Store(_, align, offset) => {
-            let _numbers = (*align, *offset);
+        Simple::Load(_, align, offset) | Simple::Store(_, align, offset) => {
+            let _numbers = (align, offset);
         }
-        Instr::Br(l) | Instr::BrIf(l) => {
-            let _l = *l;
+        Simple::Br(l) | Simple::BrIf(l) => {
+            let _l = l;
         }
-        Instr::BrTable(ls, l) => {
-            read_words(ls);
-            let _l = *l;
+        Simple::BrTable(ls, l) => {
+            are_words(ls);
+            let _l = l;
         }
-        Instr::Call(f) => {
-            let _f = *f;
+        Simple::Call(f) => {
+            let _f = f;
         }
-        Instr::CallIndirect(t) => {
-            let _t = *t;
+        Simple::CallIndirect(t) => {
+            let _t = t;
         }
         _ => {}
     }
 }
 
-fn read_item(item: &Flat)
+fn read_item(item: &Item)
     requires { IsOneSimple item.now }
     ensures { ItemInRange item.now }
 {
-    if let Flat::One(instr) = item {
+    if let Seen::One(instr) = item.seen() {
         read_instr(instr);
     }
 }

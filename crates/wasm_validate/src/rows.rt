@@ -4,8 +4,8 @@ ghost use Rattle.std.specs.Prelude.{◌≡◌, ◌+◌, length, slice_get, Some,
 ghost use Rattle.std.specs.List.{list_all};
 ghost use Rattle.wasm_syntax.specs.declared.module.Module.{Module};
 ghost use Rattle.wasm_typing.specs.Valid.{const_type, table_import, memory_import};
-ghost use Rattle.wasm_typing.specs.Faults.{first_failing, condition, type_fault, table_fault, memory_fault, import_row, func_fault, global_fault, start_fault, elem_fault, segment_fault, names_one, has_type};
-ghost use Rattle.body_check.specs.Answers.{IsScopeOf};
+ghost use Rattle.wasm_typing.specs.faults.Faults.{first_failing, condition, type_fault, table_fault, memory_fault, import_row, func_fault, global_fault, start_fault, elem_fault, segment_fault, names_one, has_type};
+ghost use Rattle.body_check.specs.words.Answers.{IsScopeOf};
 
 use body_check::Scope;
 use wasm_syntax::{
@@ -13,7 +13,7 @@ use wasm_syntax::{
     Segment,
 };
 use wasm_typing::ValidWord;
-use wasm_values::{Val, ValType};
+use wasm_values::{Val, ValType, is_at_most, is_same_type};
 
 pub(crate) fn fault_of_type(ty: &FuncType) -> Option<ValidWord>
     ensures { result ≡ type_fault ty.now }
@@ -31,15 +31,10 @@ pub(crate) fn fault_of_table(is_first: bool, limits: &Limits) -> Option<ValidWor
     if !is_first {
         return Some(ValidWord::Count);
     }
-    match limits.max {
-        Some(max) => {
-            if limits.min <= max {
-                None
-            } else {
-                Some(ValidWord::Limits)
-            }
-        }
-        None => None,
+    if is_at_most(limits.min as usize, limits.max) {
+        None
+    } else {
+        Some(ValidWord::Limits)
     }
 }
 
@@ -136,9 +131,9 @@ pub(crate) fn type_of_const(globals: &[GlobalType], instrs: &[Instr]) -> Option<
 fn is_typed(found: Option<ValType>, wanted: ValType) -> bool
     ensures { result ≡ has_type found wanted }
 {
-    match (found, wanted) {
-        (Some(ValType::I32), ValType::I32) | (Some(ValType::I64), ValType::I64) => true,
-        _ => false,
+    match found {
+        Some(ty) => is_same_type(ty, wanted),
+        None => false,
     }
 }
 

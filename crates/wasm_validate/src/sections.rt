@@ -1,34 +1,126 @@
 // The sections but that of bodies, each entry in the order of the file.
 
-ghost use Rattle.std.specs.Prelude.{◌≡◌, ◌+◌, ◌++◌, [], ◌∷◌, ℕ, List, length, IfSome, None, not};
+ghost use Rattle.std.specs.Prelude.{◌≡◌, ◌+◌, ◌++◌, [], ◌∷◌, ℕ, List, length, nat_eq, IfSome, None, not};
 ghost use Rattle.std.specs.List.{filter_map, list_any};
 ghost use Rattle.std.specs.Str.{bytes_eq};
 ghost use Rattle.wasm_syntax.specs.declared.module.Import.{Import};
 ghost use Rattle.wasm_typing.specs.Valid.{table_import, memory_import};
-ghost use Rattle.wasm_typing.specs.Faults.{type_fault, func_fault, import_fault, module_table_fault, module_memory_fault, global_fault, start_fault, elem_fault, segment_fault, export_fault, export_row, NoFault, FirstFault, StartFault};
-ghost use Rattle.body_check.specs.Answers.{Answers, IsScopeOf};
-ghost use Rattle.wasm_validate.specs.Names.{HasTexts};
+ghost use Rattle.wasm_typing.specs.faults.Faults.{type_fault, table_fault, memory_fault, func_fault, import_fault, module_table_fault, module_memory_fault, global_fault, start_fault, elem_fault, segment_fault, export_fault, export_row, NoFault, FirstFault, StartFault};
+ghost use Rattle.body_check.specs.words.Answers.{Answers, IsScopeOf};
+ghost use Rattle.wasm_validate.specs.words.Names.{HasTexts};
 
+use crate::entries::{Rows, check_entries};
 use crate::rows;
 use body_check::{Scope, memory_count, table_count};
-use std::alloc::Global;
+use std::alloc;
 use std::collections::BTreeSet;
-use wasm_syntax::{Export, FuncType, Module};
+use wasm_syntax::{Elem, Export, Func, FuncType, Global, Limits, Module, Segment};
 use wasm_typing::{ValidFault, ValidWord};
+
+// Types.
+#[derive(Clone, Copy)]
+struct Types;
+
+impl Rows<FuncType> for Types {
+    ghost fault = { λ _ _. type_fault };
+
+    ghost Known = { λ _. Unit {0} };
+
+    fn fault_of(&self, _number: usize, ty: &FuncType) -> Option<ValidWord> {
+        rows::fault_of_type(ty)
+    }
+}
+
+// Functions of a module.
+#[derive(Clone, Copy)]
+struct Funcs<'a> {
+    module: &'a Module,
+}
+
+impl<'a> Rows<Func> for Funcs<'a> {
+    ghost fault = { λ rows _. func_fault rows.module.now };
+
+    ghost Known = { λ _. Unit {0} };
+
+    fn fault_of(&self, _number: usize, func: &Func) -> Option<ValidWord> {
+        rows::fault_of_func(self.module, func)
+    }
+}
+
+// Tables that a module defines after so many imported ones.
+#[derive(Clone, Copy)]
+struct Tables {
+    imported: usize,
+}
+
+impl Rows<Limits> for Tables {
+    ghost fault = { λ rows n. table_fault (nat_eq (rows.imported + n) 0) };
+
+    ghost Known = { λ _. Unit {0} };
+
+    fn fault_of(&self, number: usize, limits: &Limits) -> Option<ValidWord> {
+        rows::fault_of_defined_table(self.imported, number, limits)
+    }
+}
+
+// Memories likewise.
+#[derive(Clone, Copy)]
+struct Memories {
+    imported: usize,
+}
+
+impl Rows<Limits> for Memories {
+    ghost fault = { λ rows n. memory_fault (nat_eq (rows.imported + n) 0) };
+
+    ghost Known = { λ _. Unit {0} };
+
+    fn fault_of(&self, number: usize, limits: &Limits) -> Option<ValidWord> {
+        rows::fault_of_defined_memory(self.imported, number, limits)
+    }
+}
+
+// Entries of a module that name others, which the scope has.
+#[derive(Clone, Copy)]
+struct InScope<'a> {
+    module: &'a Module,
+    scope: &'a Scope,
+}
+
+impl<'a> Rows<Global> for InScope<'a> {
+    ghost fault = { λ rows _. global_fault rows.module.now };
+
+    ghost Known = { λ rows. IsScopeOf rows.module.now rows.scope.now };
+
+    fn fault_of(&self, _number: usize, global: &Global) -> Option<ValidWord> {
+        rows::fault_of_global(self.module, self.scope, global)
+    }
+}
+
+impl<'a> Rows<Elem> for InScope<'a> {
+    ghost fault = { λ rows _. elem_fault rows.module.now };
+
+    ghost Known = { λ rows. IsScopeOf rows.module.now rows.scope.now };
+
+    fn fault_of(&self, _number: usize, elem: &Elem) -> Option<ValidWord> {
+        rows::fault_of_elem(self.module, self.scope, elem)
+    }
+}
+
+impl<'a> Rows<Segment> for InScope<'a> {
+    ghost fault = { λ rows _. segment_fault rows.module.now };
+
+    ghost Known = { λ rows. IsScopeOf rows.module.now rows.scope.now };
+
+    fn fault_of(&self, _number: usize, segment: &Segment) -> Option<ValidWord> {
+        rows::fault_of_segment(self.module, self.scope, segment)
+    }
+}
 
 pub(crate) fn check_types(types: &[FuncType], places: &[usize]) -> Result<(), ValidFault>
     requires { length places.now ≡ length types.now }
     ensures { Answers (λ done. NoFault (λ n. type_fault) types.now) (FirstFault (λ n. type_fault) types.now places.now) result }
 {
-    for (n, ty) in types.iter().enumerate() {
-        if let Some(word) = rows::fault_of_type(ty) {
-            return Err(ValidFault::Invalid {
-                at: places[n],
-                word,
-            });
-        }
-    }
-    Ok(())
+    check_entries(&Types, types, places)
 }
 
 pub(crate) fn check_imports(module: &Module, places: &[usize]) -> Result<(), ValidFault>
@@ -54,15 +146,7 @@ pub(crate) fn check_funcs(module: &Module, places: &[usize]) -> Result<(), Valid
     requires { length places.now ≡ length «module».now.funcs }
     ensures { Answers (λ done. NoFault (λ n. func_fault «module».now) «module».now.funcs) (FirstFault (λ n. func_fault «module».now) «module».now.funcs places.now) result }
 {
-    for (n, func) in module.funcs.as_slice().iter().enumerate() {
-        if let Some(word) = rows::fault_of_func(module, func) {
-            return Err(ValidFault::Invalid {
-                at: places[n],
-                word,
-            });
-        }
-    }
-    Ok(())
+    check_entries(&Funcs { module }, module.funcs.as_slice(), places)
 }
 
 pub(crate) fn check_tables(
@@ -74,15 +158,7 @@ pub(crate) fn check_tables(
     requires imported { imported ≡ length (filter_map (λ (i : Import). table_import i.kind) «module».now.imports) }
     ensures { Answers (λ done. NoFault (module_table_fault «module».now) «module».now.tables) (FirstFault (module_table_fault «module».now) «module».now.tables places.now) result }
 {
-    for (n, limits) in module.tables.as_slice().iter().enumerate() {
-        if let Some(word) = rows::fault_of_defined_table(imported, n, limits) {
-            return Err(ValidFault::Invalid {
-                at: places[n],
-                word,
-            });
-        }
-    }
-    Ok(())
+    check_entries(&Tables { imported }, module.tables.as_slice(), places)
 }
 
 pub(crate) fn check_memories(
@@ -94,15 +170,7 @@ pub(crate) fn check_memories(
     requires imported { imported ≡ length (filter_map (λ (i : Import). memory_import i.kind) «module».now.imports) }
     ensures { Answers (λ done. NoFault (module_memory_fault «module».now) «module».now.memories) (FirstFault (module_memory_fault «module».now) «module».now.memories places.now) result }
 {
-    for (n, limits) in module.memories.as_slice().iter().enumerate() {
-        if let Some(word) = rows::fault_of_defined_memory(imported, n, limits) {
-            return Err(ValidFault::Invalid {
-                at: places[n],
-                word,
-            });
-        }
-    }
-    Ok(())
+    check_entries(&Memories { imported }, module.memories.as_slice(), places)
 }
 
 pub(crate) fn check_globals(
@@ -114,15 +182,11 @@ pub(crate) fn check_globals(
     requires scope { IsScopeOf «module».now scope.now }
     ensures { Answers (λ done. NoFault (λ n. global_fault «module».now) «module».now.globals) (FirstFault (λ n. global_fault «module».now) «module».now.globals places.now) result }
 {
-    for (n, global) in module.globals.as_slice().iter().enumerate() {
-        if let Some(word) = rows::fault_of_global(module, scope, global) {
-            return Err(ValidFault::Invalid {
-                at: places[n],
-                word,
-            });
-        }
-    }
-    Ok(())
+    check_entries(
+        &InScope { module, scope },
+        module.globals.as_slice(),
+        places,
+    )
 }
 
 pub(crate) fn check_elems(
@@ -134,15 +198,7 @@ pub(crate) fn check_elems(
     requires scope { IsScopeOf «module».now scope.now }
     ensures { Answers (λ done. NoFault (λ n. elem_fault «module».now) «module».now.elems) (FirstFault (λ n. elem_fault «module».now) «module».now.elems places.now) result }
 {
-    for (n, elem) in module.elems.as_slice().iter().enumerate() {
-        if let Some(word) = rows::fault_of_elem(module, scope, elem) {
-            return Err(ValidFault::Invalid {
-                at: places[n],
-                word,
-            });
-        }
-    }
-    Ok(())
+    check_entries(&InScope { module, scope }, module.elems.as_slice(), places)
 }
 
 pub(crate) fn check_segments(
@@ -154,15 +210,11 @@ pub(crate) fn check_segments(
     requires scope { IsScopeOf «module».now scope.now }
     ensures { Answers (λ done. NoFault (λ n. segment_fault «module».now) «module».now.segments) (FirstFault (λ n. segment_fault «module».now) «module».now.segments places.now) result }
 {
-    for (n, segment) in module.segments.as_slice().iter().enumerate() {
-        if let Some(word) = rows::fault_of_segment(module, scope, segment) {
-            return Err(ValidFault::Invalid {
-                at: places[n],
-                word,
-            });
-        }
-    }
-    Ok(())
+    check_entries(
+        &InScope { module, scope },
+        module.segments.as_slice(),
+        places,
+    )
 }
 
 /// Adds a name of an export, and tells whether it is a new one.
@@ -204,7 +256,7 @@ fn fault_of_export<'a>(
 }
 
 pub(crate) fn check_exports(
-    alloc: Global,
+    alloc: alloc::Global,
     module: &Module,
     scope: &Scope,
     places: &[usize],

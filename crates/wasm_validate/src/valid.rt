@@ -1,7 +1,7 @@
 ghost use Rattle.std.specs.Prelude.{◌≡◌};
 ghost use Rattle.wasm_typing.specs.Valid.{Valid};
-ghost use Rattle.wasm_typing.specs.Faults.{Marked, InvalidAt};
-ghost use Rattle.body_check.specs.Answers.{Answers};
+ghost use Rattle.wasm_typing.specs.faults.Faults.{Marked, InvalidAt};
+ghost use Rattle.body_check.specs.words.Answers.{Answers};
 
 use crate::check::check_module;
 use crate::ranges::read_numbers;
@@ -11,7 +11,7 @@ use wasm_syntax::{Marks, Module};
 use wasm_typing::ValidFault;
 
 /// A module that is valid by its type. Contracts see the module.
-#[derive(Debug, Drop)]
+#[derive(Drop)]
 pub struct ValidModule {
     module: Module,
 }

@@ -1,10 +1,10 @@
 use Rattle.std.proofs.Common.{◌≡◌, ℕ, ◌-◌, length, Option, refl, sym, subst, arith}
 use Rattle.wasm_typing.specs.declared.fault.ValidWord.{ValidWord}
 use Rattle.wasm_typing.specs.Typing.{Types}
-use Rattle.wasm_typing.specs.Open.{parts_before}
-use Rattle.body_check.specs.Operands.{Are}
-use Rattle.body_check.specs.Steps.{context_in}
-use Rattle.body_check.specs.Walks.{IsAt, Walked}
+use Rattle.wasm_typing.specs.faults.Open.{parts_before}
+use Rattle.body_check.specs.words.Operands.{Are}
+use Rattle.body_check.specs.words.Steps.{context_in}
+use Rattle.body_check.specs.words.Walks.{IsAt, Walked}
 use Rattle.body_check.proofs.BodyLemmas.{simple_at, begun_at, further, fault_at, ended, fault_at_end, some_items, TypedBefore}
 use Rattle.body_check.proofs.body.check_body.Goals as goal
 

@@ -1,7 +1,7 @@
 use Rattle.std.proofs.Common.{ℕ, ◌<◌}
-use Rattle.wasm_typing.specs.Open.{parts_before, TypedThrough}
-use Rattle.body_check.specs.Steps.{context_in}
-use Rattle.body_check.specs.Walks.{IsAt}
+use Rattle.wasm_typing.specs.faults.Open.{parts_before, TypedThrough}
+use Rattle.body_check.specs.words.Steps.{context_in}
+use Rattle.body_check.specs.words.Walks.{IsAt}
 use Rattle.body_check.proofs.body.check_body.Given as goal
 
 abbrev pub invariant-loop-n : goal.invariant-loop-n

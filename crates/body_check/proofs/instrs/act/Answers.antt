@@ -2,24 +2,25 @@ use Rattle.std.proofs.Common.{[], ◌∷◌, ap, refl}
 use Rattle.wasm_values.specs.declared.number.ValType.TheVariants.{I32}
 use Rattle.wasm_values.specs.Operators.{type_of, result_type}
 use Rattle.wasm_syntax.specs.declared.instr.Instr as source
+use Rattle.wasm_syntax.specs.Items.{instr_seen}
 use Rattle.wasm_typing.specs.Typing.{num_takes, Turns}
-use Rattle.body_check.specs.Operands.{Are}
-use Rattle.body_check.specs.Steps.{context_in, labels_in}
+use Rattle.body_check.specs.words.Operands.{Are}
+use Rattle.body_check.specs.words.Steps.{context_in, labels_in}
 use Rattle.body_check.proofs.ActLemmas.{acts_as, same_self, same_turns, same_load, same_store, ready_along}
 use Rattle.body_check.proofs.instrs.act.Goals as goal
 
 pub returns-in-Num : goal.returns-in-Num
 returns-in-Num c =
-    acts_as c.act_num.result (Are c.args.operands.now) (Are c.act_num.new.operands) (Turns (num_takes c.in-Num.op) (result_type c.in-Num.op ∷ [])) (context_in c.args.names.now) (labels_in c.args.labels.now) c.args.instr.now (source.Num c.in-Num.op) c.in-Num.is (same_self _) c.act_num.ensures
+    acts_as c.act_num.result (Are c.args.operands.now) (Are c.act_num.new.operands) (Turns (num_takes c.in-Num.op) (result_type c.in-Num.op ∷ [])) (context_in c.args.names.now) (labels_in c.args.labels.now) (instr_seen c.args.instr) (source.Num c.in-Num.op) (ap instr_seen c.in-Num.is) (same_self _) c.act_num.ensures
 
 pub returns-in-Const : goal.returns-in-Const
 returns-in-Const c =
-    acts_as c.turn.result (Are c.args.operands.now) (Are c.turn.new.self) (Turns [] (c.type_of_value.result ∷ [])) (context_in c.args.names.now) (labels_in c.args.labels.now) c.args.instr.now (source.Const c.in-Const.value) c.in-Const.is (same_turns [] [] _ (type_of c.in-Const.value ∷ []) refl (ap (λ t. t ∷ []) c.type_of_value.ensures)) c.turn.ensures
+    acts_as c.turn.result (Are c.args.operands.now) (Are c.turn.new.self) (Turns [] (c.type_of_value.result ∷ [])) (context_in c.args.names.now) (labels_in c.args.labels.now) (instr_seen c.args.instr) (source.Const c.in-Const.value) (ap instr_seen c.in-Const.is) (same_turns [] [] _ (type_of c.in-Const.value ∷ []) refl (ap (λ t. t ∷ []) c.type_of_value.ensures)) c.turn.ensures
 
 pub returns-in-Load : goal.returns-in-Load
 returns-in-Load c =
-    acts_as c.turn-in-Load.result (Are c.args.operands.now) (Are c.turn-in-Load.new.self) (Turns (I32 ∷ []) (c.loaded_type.result ∷ [])) (context_in c.args.names.now) (labels_in c.args.labels.now) c.args.instr.now (source.Load c.in-Load.op c.in-Load.field-1 c.in-Load.field-2) c.in-Load.is (same_load (context_in c.args.names.now) (labels_in c.args.labels.now) c.in-Load.op c.in-Load.field-1 c.in-Load.field-2 c.loaded_type.result c.loaded_type.ensures (ready_along (context_in c.args.names.now) (labels_in c.args.labels.now) c.args.instr.now (source.Load c.in-Load.op c.in-Load.field-1 c.in-Load.field-2) c.in-Load.is c.requires.ready)) c.turn-in-Load.ensures
+    acts_as c.turn-in-Load.result (Are c.args.operands.now) (Are c.turn-in-Load.new.self) (Turns (I32 ∷ []) (c.loaded_type.result ∷ [])) (context_in c.args.names.now) (labels_in c.args.labels.now) (instr_seen c.args.instr) (source.Load c.in-Load.op c.in-Load.field-1 c.in-Load.field-2) (ap instr_seen c.in-Load.is) (same_load (context_in c.args.names.now) (labels_in c.args.labels.now) c.in-Load.op c.in-Load.field-1 c.in-Load.field-2 c.loaded_type.result c.loaded_type.ensures (ready_along (context_in c.args.names.now) (labels_in c.args.labels.now) (instr_seen c.args.instr) (source.Load c.in-Load.op c.in-Load.field-1 c.in-Load.field-2) (ap instr_seen c.in-Load.is) c.requires.ready)) c.turn-in-Load.ensures
 
 pub returns-in-Store : goal.returns-in-Store
 returns-in-Store c =
-    acts_as c.turn-in-Store.result (Are c.args.operands.now) (Are c.turn-in-Store.new.self) (Turns (c.stored_type.result ∷ I32 ∷ []) []) (context_in c.args.names.now) (labels_in c.args.labels.now) c.args.instr.now (source.Store c.in-Store.op c.in-Store.field-1 c.in-Store.field-2) c.in-Store.is (same_store (context_in c.args.names.now) (labels_in c.args.labels.now) c.in-Store.op c.in-Store.field-1 c.in-Store.field-2 c.stored_type.result c.stored_type.ensures (ready_along (context_in c.args.names.now) (labels_in c.args.labels.now) c.args.instr.now (source.Store c.in-Store.op c.in-Store.field-1 c.in-Store.field-2) c.in-Store.is c.requires.ready)) c.turn-in-Store.ensures
+    acts_as c.turn-in-Store.result (Are c.args.operands.now) (Are c.turn-in-Store.new.self) (Turns (c.stored_type.result ∷ I32 ∷ []) []) (context_in c.args.names.now) (labels_in c.args.labels.now) (instr_seen c.args.instr) (source.Store c.in-Store.op c.in-Store.field-1 c.in-Store.field-2) (ap instr_seen c.in-Store.is) (same_store (context_in c.args.names.now) (labels_in c.args.labels.now) c.in-Store.op c.in-Store.field-1 c.in-Store.field-2 c.stored_type.result c.stored_type.ensures (ready_along (context_in c.args.names.now) (labels_in c.args.labels.now) (instr_seen c.args.instr) (source.Store c.in-Store.op c.in-Store.field-1 c.in-Store.field-2) (ap instr_seen c.in-Store.is) c.requires.ready)) c.turn-in-Store.ensures

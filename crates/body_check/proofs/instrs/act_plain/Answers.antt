@@ -5,8 +5,8 @@ use Rattle.wasm_syntax.specs.declared.instr.Plain.TheVariants as plain
 use Rattle.wasm_syntax.specs.declared.instr.Instr as source
 use Rattle.wasm_typing.specs.declared.fault.ValidWord.TheVariants as word
 use Rattle.wasm_typing.specs.Typing.{Turns}
-use Rattle.body_check.specs.Operands.{Are}
-use Rattle.body_check.specs.Steps.{context_in, labels_in}
+use Rattle.body_check.specs.words.Operands.{Are}
+use Rattle.body_check.specs.words.Steps.{context_in, labels_in}
 use Rattle.body_check.proofs.OperandLemmas.{are_some}
 use Rattle.body_check.proofs.ActLemmas.{acts_as, same_self, guarded, lt_from, first_holds, ready_along}
 use Rattle.body_check.proofs.instrs.act_plain.Goals as goal

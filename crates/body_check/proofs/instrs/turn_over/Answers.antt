@@ -1,5 +1,5 @@
 use Rattle.std.proofs.Common.{reverse}
-use Rattle.body_check.specs.Operands.{Are}
+use Rattle.body_check.specs.words.Operands.{Are}
 use Rattle.body_check.proofs.ActLemmas.{turned_over}
 use Rattle.body_check.proofs.instrs.turn_over.Goals as goal
 

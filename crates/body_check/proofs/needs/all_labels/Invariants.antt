@@ -1,8 +1,8 @@
 use Rattle.std.proofs.Common.{◌≡◌, true, take, slice_get}
 use Rattle.std.specs.List.{list_all}
 use Rattle.wasm_typing.specs.Typing.{types_of}
-use Rattle.wasm_typing.specs.Faults.{is_label_of}
-use Rattle.body_check.specs.Steps.{labels_in}
+use Rattle.wasm_typing.specs.faults.Faults.{is_label_of}
+use Rattle.body_check.specs.words.Steps.{labels_in}
 use Rattle.body_check.proofs.needs.all_labels.Given as goal
 
 abbrev pub invariant-loop-l : goal.invariant-loop-l

@@ -1,7 +1,8 @@
 use Rattle.std.proofs.Common.{Err, ap}
 use Rattle.rw_edge.specs.Files.{contents_of}
-use Rattle.verify_report.specs.Reports.{seen, OfNotes, module_limit, module_too_long}
-use Rattle.verify_report.proofs.ReportLaws.{read_made, second_not_read, file_long, not_read}
+use Rattle.verify_report.specs.Reports.{OfNotes, module_limit, module_too_long}
+use Rattle.verify_report.proofs.ReportLaws.{read_made, second_not_read, file_unread, not_read}
+use Rattle.verify_report.proofs.Verdicts.{unread_spoken, unread_verdict}
 use Rattle.verify_report.proofs.commands.verify.Goals as goal
 
 pub returns-in-Ok-clause-made : goal.returns-in-Ok-clause-made
@@ -14,11 +15,17 @@ returns-in-Ok-clause-read g c = λ e.
     second_not_read _ _ _ (g.S.Shelf.files c.args.shelf.now) (g.S.Shelf.files c.read_file.new.shelf) c.args.module.now module_limit module_too_long (λ f bytes. OfNotes bytes (contents_of f c.args.notes.now)) c.in-Ok.bytes c.as_slice.result.now
     c.in-Ok.ensures.count.no_lower c.in-Ok.ensures.files c.as_slice.ensures c.in-Ok.ensures.whole c.in-Ok.ensures.limited (c.with_notes.ensures.read e)
 
-pub returns-in_ok-too_long-in-Err-TooLong-clause-made : goal.returns-in_ok-too_long-in-Err-TooLong-clause-made
-returns-in_ok-too_long-in-Err-TooLong-clause-made g c =
-    file_long (g.S.Shelf.files c.args.shelf.now) c.args.module.now module_limit module_too_long (λ f bytes. OfNotes bytes (contents_of f c.args.notes.now)) (seen c.in_ok-too_long-in-Err-TooLong.field-0)
-    (c.in-Err-TooLong.ensures.too_long (ap Err c.in-Err-TooLong.field-0-is)) c.in_ok-too_long-in-Err-TooLong.ensures
+pub returns-in-Err-clause-made : goal.returns-in-Err-clause-made
+returns-in-Err-clause-made g c =
+    file_unread c.unread.result (g.S.Shelf.files c.args.shelf.now) c.args.module.now module_limit module_too_long (λ f bytes. OfNotes bytes (contents_of f c.args.notes.now)) c.in-Err.fault
+    (λ is. c.in-Err.ensures.too_long (ap Err is)) c.unread.ensures.made
 
-pub returns-in-Err-Failed-clause-read : goal.returns-in-Err-Failed-clause-read
-returns-in-Err-Failed-clause-read g c = λ e.
-    not_read _ (g.S.Shelf.files c.args.shelf.now) c.args.module.now module_limit module_too_long (λ f bytes. OfNotes bytes (contents_of f c.args.notes.now)) (c.in-Err-Failed.ensures.failed (ap Err c.in-Err-Failed.field-0-is))
+pub returns-in-Err-clause-read : goal.returns-in-Err-clause-read
+returns-in-Err-clause-read g c = λ e.
+    not_read _ (g.S.Shelf.files c.args.shelf.now) c.args.module.now module_limit module_too_long (λ f bytes. OfNotes bytes (contents_of f c.args.notes.now)) (c.in-Err.ensures.failed (ap Err (c.unread.ensures.read e)))
+
+pub returns-in-Err-clause-verified : goal.returns-in-Err-clause-verified
+returns-in-Err-clause-verified g c = unread_verdict _ c.unread.result module_too_long (λ e. absurd cc) c.unread.ensures.made
+
+pub returns-in-Err-clause-spoken : goal.returns-in-Err-clause-spoken
+returns-in-Err-clause-spoken g c = unread_spoken _ c.unread.result module_too_long tt c.unread.ensures.made

@@ -1,6 +1,6 @@
 use Rattle.std.proofs.Common.{List, subst}
 use Rattle.wasm_syntax.specs.declared.module.FuncType.{FuncType}
-use Rattle.wasm_typing.specs.Faults.{NoFault, type_fault}
+use Rattle.wasm_typing.specs.faults.Faults.{NoFault, type_fault}
 use Rattle.wasm_validate.proofs.ValidLemmas.{one_table, one_memory, has_types}
 use Rattle.wasm_validate.proofs.check.check_module.Goals as goal
 

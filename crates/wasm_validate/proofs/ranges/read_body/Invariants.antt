@@ -1,4 +1,4 @@
-use Rattle.wasm_typing.specs.Open.{parts_before}
+use Rattle.wasm_typing.specs.faults.Open.{parts_before}
 use Rattle.wasm_validate.proofs.RangeLemmas.{AreInRange}
 use Rattle.wasm_validate.proofs.ranges.read_body.Given as goal
 

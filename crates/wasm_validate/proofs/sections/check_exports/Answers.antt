@@ -1,6 +1,6 @@
 use Rattle.std.proofs.Common.{map, take}
 use Rattle.wasm_syntax.specs.declared.module.Export.{Export}
-use Rattle.wasm_typing.specs.Faults.{export_fault}
+use Rattle.wasm_typing.specs.faults.Faults.{export_fault}
 use Rattle.body_check.proofs.SectionLemmas.{none_more_read, none_at_end, first_fault_read}
 use Rattle.wasm_validate.proofs.NameLemmas.{names_more}
 use Rattle.wasm_validate.proofs.sections.check_exports.Goals as goal

@@ -2,7 +2,7 @@ use Rattle.std.proofs.Common.{length, take, nat_eq, ap, ◌∙◌}
 use Rattle.std.specs.List.{filter_map}
 use Rattle.wasm_syntax.specs.declared.module.Import.{Import}
 use Rattle.wasm_typing.specs.Valid.{table_import, memory_import}
-use Rattle.wasm_typing.specs.Faults.{import_fault, import_row}
+use Rattle.wasm_typing.specs.faults.Faults.{import_fault, import_row}
 use Rattle.body_check.proofs.SectionLemmas.{none_more_read, none_at_end, first_fault_read, counted_read, grown}
 use Rattle.wasm_validate.proofs.sections.check_imports.Goals as goal
 

@@ -2,7 +2,7 @@ use Rattle.std.proofs.Common.{◌≡◌, ◌≤◌, length, take}
 use Rattle.std.specs.List.{filter_map}
 use Rattle.wasm_syntax.specs.declared.module.Import.{Import}
 use Rattle.wasm_typing.specs.Valid.{table_import, memory_import}
-use Rattle.wasm_typing.specs.Faults.{import_fault}
+use Rattle.wasm_typing.specs.faults.Faults.{import_fault}
 use Rattle.body_check.proofs.SectionLemmas.{NoneBefore}
 use Rattle.wasm_validate.proofs.sections.check_imports.Given as goal
 

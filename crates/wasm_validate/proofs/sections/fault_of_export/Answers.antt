@@ -1,4 +1,4 @@
-use Rattle.wasm_typing.specs.Faults.{names_one}
+use Rattle.wasm_typing.specs.faults.Faults.{names_one}
 use Rattle.wasm_validate.proofs.NameLemmas.{new_row}
 use Rattle.wasm_validate.proofs.sections.fault_of_export.Goals as goal
 

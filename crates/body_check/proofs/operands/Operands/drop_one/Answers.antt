@@ -1,4 +1,4 @@
-use Rattle.body_check.specs.Operands.{Are}
+use Rattle.body_check.specs.words.Operands.{Are}
 use Rattle.body_check.proofs.OperandLemmas.{dropped, none_to_drop}
 use Rattle.body_check.proofs.operands.Operands.drop_one.Goals as goal
 

@@ -1,5 +1,5 @@
 use Rattle.std.proofs.Common.{take, reverse}
-use Rattle.body_check.specs.Operands.{Are, Gave}
+use Rattle.body_check.specs.words.Operands.{Are, Gave}
 use Rattle.body_check.proofs.operands.Operands.give_all.Given as goal
 
 abbrev pub invariant-loop-ty : goal.invariant-loop-ty

@@ -1,4 +1,4 @@
-use Rattle.body_check.specs.Operands.{Are}
+use Rattle.body_check.specs.words.Operands.{Are}
 use Rattle.body_check.proofs.OperandLemmas.{left, are_some}
 use Rattle.body_check.proofs.operands.Operands.leave.Goals as goal
 

@@ -1,4 +1,4 @@
-use Rattle.body_check.specs.Operands.{Are}
+use Rattle.body_check.specs.words.Operands.{Are}
 use Rattle.body_check.proofs.OperandLemmas.{selected}
 use Rattle.body_check.proofs.operands.Operands.select.Goals as goal
 

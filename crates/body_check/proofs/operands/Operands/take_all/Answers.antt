@@ -1,6 +1,6 @@
 use Rattle.std.proofs.Common.{◌-◌, arith}
 use Rattle.wasm_values.specs.declared.number.ValType.TheVariants.{I32}
-use Rattle.body_check.specs.Operands.{Are}
+use Rattle.body_check.specs.words.Operands.{Are}
 use Rattle.body_check.proofs.OperandLemmas.{missing}
 use Rattle.body_check.proofs.operands.Operands.take_all.Goals as goal
 

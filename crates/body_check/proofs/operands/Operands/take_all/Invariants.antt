@@ -1,5 +1,5 @@
 use Rattle.std.proofs.Common.{◌≤◌, true, length, drop, reverse}
-use Rattle.body_check.specs.Operands.{Are, Took}
+use Rattle.body_check.specs.words.Operands.{Are, Took}
 use Rattle.body_check.proofs.operands.Operands.take_all.Given as goal
 
 abbrev pub decreases-loop-n : goal.decreases-loop-n

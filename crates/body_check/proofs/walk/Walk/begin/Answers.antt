@@ -1,8 +1,8 @@
 use Rattle.std.proofs.Common.{◌≡◌, [], Some, refl, sym, subst}
 use Rattle.body_check.specs.declared.operands.Operands.{Operands}
 use Rattle.body_check.specs.declared.walk.Walk.{Walk}
-use Rattle.wasm_typing.specs.Open.{before_part}
-use Rattle.body_check.specs.Operands.{Are, Exactly}
+use Rattle.wasm_typing.specs.faults.Open.{before_part}
+use Rattle.body_check.specs.words.Operands.{Are, Exactly}
 use Rattle.body_check.proofs.WalkSteps.{begins, begins_not}
 use Rattle.body_check.proofs.walk.Walk.begin.Goals as goal
 

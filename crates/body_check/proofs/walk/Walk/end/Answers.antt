@@ -1,7 +1,7 @@
 use Rattle.std.proofs.Common.{refl, sym, subst}
 use Rattle.body_check.specs.declared.walk.Walk.{Walk}
 use Rattle.wasm_typing.specs.Typing.{Types}
-use Rattle.body_check.specs.Operands.{Are, Gave}
+use Rattle.body_check.specs.words.Operands.{Are, Gave}
 use Rattle.body_check.proofs.WalkSteps.{ends, ends_not, labels_popped}
 use Rattle.body_check.proofs.walk.Walk.end.Goals as goal
 

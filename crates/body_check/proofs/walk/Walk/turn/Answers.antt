@@ -1,7 +1,7 @@
 use Rattle.std.proofs.Common.{refl, sym, subst}
 use Rattle.body_check.specs.declared.walk.Walk.{Walk}
 use Rattle.wasm_typing.specs.Typing.{Types}
-use Rattle.body_check.specs.Operands.{Are}
+use Rattle.body_check.specs.words.Operands.{Are}
 use Rattle.body_check.proofs.WalkSteps.{turns, turns_not}
 use Rattle.body_check.proofs.walk.Walk.turn.Goals as goal
 

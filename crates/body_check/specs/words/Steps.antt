@@ -11,9 +11,9 @@ use Rattle.wasm_typing.specs.declared.fault.ValidWord.TheVariants as word
 use Rattle.body_check.specs.declared.names.Names.{Names}
 use Rattle.wasm_typing.specs.Typing.{Types, Context, types_of, InstructionTyped}
 use Rattle.wasm_typing.specs.Valid.{type_at, func_types_of, context_of}
-use Rattle.wasm_typing.specs.Faults.{Condition, first_failing, conditions}
-use Rattle.body_check.specs.Answers.{IsScopeOf}
-use Rattle.body_check.specs.Operands.{Advances, IsStuck, Goes}
+use Rattle.wasm_typing.specs.faults.Faults.{Condition, first_failing, conditions}
+use Rattle.body_check.specs.words.Answers.{IsScopeOf}
+use Rattle.body_check.specs.words.Operands.{Advances, IsStuck, Goes}
 
 -- What a body may name.
 abbrev pub context_in : Names → Context

@@ -12,11 +12,11 @@ use Rattle.body_check.specs.declared.operands.Operands.{Operands}
 use Rattle.body_check.specs.declared.walk.Open.{Open}
 use Rattle.body_check.specs.declared.walk.Walk.{Walk}
 use Rattle.wasm_typing.specs.Typing.{Context, types_of, SequenceTyped}
-use Rattle.wasm_typing.specs.Open.{labels_of, before_part, FirstSideTyped, PartsTyped}
+use Rattle.wasm_typing.specs.faults.Open.{labels_of, before_part, FirstSideTyped, PartsTyped}
 use Rattle.wasm_typing.specs.Valid.{InstructionInRange}
-use Rattle.wasm_typing.specs.Faults.{item_word}
-use Rattle.body_check.specs.Operands.{Are, Exactly}
-use Rattle.body_check.specs.Steps.{labels_in}
+use Rattle.wasm_typing.specs.faults.Faults.{item_word}
+use Rattle.body_check.specs.words.Operands.{Are, Exactly}
+use Rattle.body_check.specs.words.Steps.{labels_in}
 
 -- Open parts, the innermost first, after one more item.
 abbrev pub then_inner : List Part → Flat → List Part

@@ -4,9 +4,9 @@ use Rattle.std.specs.Prelude.{◌≡◌, ℕ, ◌+◌, ◌<◌, ◌^◌, ◌⊎�
 use Rattle.std.specs.List.{filter_map, list_any, list_all}
 use Rattle.std.specs.Option.{unwrap_or}
 use Rattle.std.specs.Str.{bytes_eq}
-use Rattle.std.specs.Cmp.Lexicographic.{pointwise}
 use Rattle.wasm_values.specs.declared.number.ValType.{ValType}
-use Rattle.wasm_values.specs.declared.number.ValType.TheVariants.{I32, I64}
+use Rattle.wasm_values.specs.declared.number.ValType.TheVariants.{I32}
+use Rattle.wasm_values.specs.Types.{is_same_type, are_same_types, is_at_most}
 use Rattle.wasm_syntax.specs.declared.instr.Plain.{Plain}
 use Rattle.wasm_syntax.specs.declared.instr.Plain.TheVariants.{MemorySize, MemoryGrow}
 use Rattle.wasm_syntax.specs.declared.instr.Instr as source
@@ -31,10 +31,17 @@ use Rattle.wasm_syntax.specs.declared.module.Marks.{Marks}
 use Rattle.wasm_syntax.specs.FlatForm.{flat_body}
 use Rattle.wasm_typing.specs.declared.fault.ValidWord.{ValidWord}
 use Rattle.wasm_typing.specs.declared.fault.ValidWord.TheVariants as word
+use Rattle.wasm_typing.specs.declared.fault.ValidFault.{ValidFault}
+use Rattle.wasm_typing.specs.declared.fault.ValidFault.TheVariants.{Invalid, OutOfMemory}
 use Rattle.wasm_syntax.specs.Accesses.{bytes_loaded, bytes_stored}
 use Rattle.wasm_typing.specs.Typing.{Types, Context}
-use Rattle.wasm_typing.specs.Open.{labels_of, parts_before, TypedThrough}
+use Rattle.wasm_typing.specs.faults.Open.{labels_of, parts_before, TypedThrough}
 use Rattle.wasm_typing.specs.Valid.{func_types_of, funcs_of, tables_of, memories_of, globals_of, imported_globals_of, context_of, table_import, memory_import, const_type, FuncValid}
+
+-- The fault of a refusal, its place and word, where it is no want of memory.
+abbrev pub fault_of : ValidFault → Option (ℕ × ValidWord)
+fault_of (Invalid at w) = Some (at, w)
+fault_of OutOfMemory = None
 
 -- ---- rows: conditions with their words
 
@@ -52,11 +59,6 @@ abbrev pub first_failing : List Condition → Option ValidWord
 first_failing [] = None
 first_failing (c ∷ cs) = if c.holds then first_failing cs else Some c.word
 
--- A number is at most a bound, if there is a bound.
-abbrev pub is_at_most : ℕ → Option ℕ → Bool
-is_at_most n None = true
-is_at_most n (Some bound) = nat_le n bound
-
 -- A number, if there is one, is at most a bound.
 abbrev pub is_within : Option ℕ → ℕ → Bool
 is_within None bound = true
@@ -65,12 +67,6 @@ is_within (Some n) bound = nat_le n bound
 -- A memory's minimum is at most its maximum, and both are at most 65,536 pages (section 3.2.4).
 abbrev pub are_pages : Limits → Bool
 are_pages l = is_at_most l.min l.max && (nat_le l.min 65536 && is_within l.max 65536)
-
--- Two value types are the same.
-abbrev pub is_same_type : ValType → ValType → Bool
-is_same_type I32 I32 = true
-is_same_type I64 I64 = true
-is_same_type _ _ = false
 
 -- There is a type, and it is this one.
 abbrev pub has_type : Option ValType → ValType → Bool
@@ -172,14 +168,10 @@ abbrev pub is_mutable : Option GlobalType → Bool
 is_mutable None = false
 is_mutable (Some g) = g.mutable
 
--- Two lists of types are the same.
-abbrev pub same_types : Types → Types → Bool
-same_types = pointwise is_same_type
-
 -- There is a label, and a branch to it takes these types.
 abbrev pub is_label_of : Option Types → Types → Bool
 is_label_of None ts = false
-is_label_of (Some us) ts = same_types us ts
+is_label_of (Some us) ts = are_same_types us ts
 
 -- The targets of a `br_table` exist, and a branch to each takes what one to the last takes.
 abbrev pub are_targets : List Types → List ℕ → Option Types → Bool

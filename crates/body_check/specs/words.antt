@@ -1,0 +1,5 @@
+-- Words of proofs and of private contracts.
+pub mod Answers
+pub mod Operands
+pub mod Steps
+pub mod Walks

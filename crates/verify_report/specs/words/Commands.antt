@@ -1,0 +1,9 @@
+-- The command that the code read from words.
+use Rattle.verify_report.specs.declared.commands.Asked.{Asked}
+use Rattle.verify_report.specs.declared.commands.Asked.TheVariants as asked
+use Rattle.verify_report.specs.Reports.{Command, Check, Show, Verify}
+
+abbrev pub command_in : Asked → Command
+command_in (asked.Check «module») = Check «module».now
+command_in (asked.Show «module») = Show «module».now
+command_in (asked.Verify «module» notes) = Verify «module».now notes.now
