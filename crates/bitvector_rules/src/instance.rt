@@ -19,17 +19,7 @@ pub fn says(table: &TermTable, tree: &Formula, formula: &IdFormula) -> bool
     requires { formula_bound formula.now ≤ length table.now }
     ensures { result ≡ same_formula tree.now (formula_of table.now formula.now) }
 {
-    let leaves = LeafIds {
-        variables: &[],
-        own: &[],
-        locals: &[],
-        stack: &[],
-        globals: &[],
-        pages: None,
-        args: &[],
-        result: None,
-    };
-    table.is_replaced_formula(tree, &leaves, formula)
+    table.is_replaced_formula(tree, &LeafIds::none(), formula)
 }
 
 /// Whether the last of the steps says the formula.

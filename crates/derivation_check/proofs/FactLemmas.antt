@@ -10,7 +10,7 @@ use Rattle.term_logic.proofs.Formulas.{extended}
 use Rattle.bitvector_rules.specs.declared.goals.SubGoal.{SubGoal}
 use Rattle.bitvector_rules.specs.Facts.{AllWithin}
 use Rattle.bitvector_rules.specs.Goals.{goal_of, GoalsWithin}
-use Rattle.derivation_check.specs.Facts.{hyps_at, earlier_at, facts_at}
+use Rattle.derivation_check.specs.words.Facts.{hyps_at, earlier_at, facts_at}
 
 pub extends_trans : (a b c : List Term) → Extends a b → Extends b c → Extends a c
 extends_trans a b c p q = extended a c (omega (arith, p.longer, q.longer)) (λ i h. q.kept i (omega (arith, p.longer)) ∙ p.kept i h)

@@ -12,7 +12,7 @@ use Rattle.term_logic.proofs.Formulas.{extended}
 use Rattle.bitvector_rules.specs.declared.step.Step.{Step}
 use Rattle.bitvector_rules.specs.Facts.{AllWithin}
 use Rattle.derivation_check.specs.Derivations.{is_instance, conclusion_of, good_steps}
-use Rattle.derivation_check.specs.Facts.{hyps_at, earlier_at}
+use Rattle.derivation_check.specs.words.Facts.{hyps_at, earlier_at}
 use Rattle.derivation_check.proofs.FactLemmas.{extends_trans, within_more, hyps_kept, earlier_kept, hyps_push, earlier_push}
 
 -- after i good steps the table is ts and the added facts are `added`, and what is left is to count the other steps

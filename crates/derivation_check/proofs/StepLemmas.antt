@@ -8,7 +8,7 @@ use Rattle.term_trees.specs.declared.term.Term.{Term}
 use Rattle.term_trees.specs.declared.term.Formula.{Formula}
 use Rattle.term_logic.specs.Formulas.{formula_bound, formula_of}
 use Rattle.term_logic.specs.Extends.{Extends}
-use Rattle.derivation_check.specs.Facts.{hyps_at, earlier_at, facts_at}
+use Rattle.derivation_check.specs.words.Facts.{hyps_at, earlier_at, facts_at}
 use Rattle.derivation_check.proofs.FactLemmas.{assumed_hyps, assumed_earlier}
 use Rattle.term_logic.specs.declared.formula.IdFormula.{IdFormula}
 use Rattle.term_trees.specs.Same.{passes, same_formula}

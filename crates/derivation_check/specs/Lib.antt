@@ -1,2 +1,2 @@
 pub mod Derivations
-pub mod Facts
+pub mod words

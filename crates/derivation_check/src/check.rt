@@ -7,7 +7,7 @@ ghost use Rattle.bitvector_rules.specs.Facts.{AllWithin};
 ghost use Rattle.bitvector_rules.specs.Goals.{goal_of, GoalsWithin};
 ghost use Rattle.bitvector_rules.specs.Steps.{is_admissible, all_admissible};
 ghost use Rattle.derivation_check.specs.Derivations.{conclusion_of, is_instance, all_reach, derives, good_steps, checked};
-ghost use Rattle.derivation_check.specs.Facts.{hyps_at, earlier_at, facts_at};
+ghost use Rattle.derivation_check.specs.words.Facts.{hyps_at, earlier_at, facts_at};
 
 use bitvector_rules::{Facts, Step, SubGoal, ends_with, sub_goals};
 use std::alloc::Global;

@@ -13,7 +13,7 @@ use Rattle.term_trees.proofs.AtomLists.{among, among-distinct, with_coefficients
 use Rattle.term_trees.proofs.LinearForms.{Covers, form-covers}
 use Rattle.term_trees.proofs.Sameness.{same-exact}
 use Rattle.term_trees.proofs.Truths.{both, and_true}
-use Rattle.equality_rules.specs.Sums.{agrees}
+use Rattle.equality_rules.specs.words.Sums.{agrees}
 
 -- ---- tests
 

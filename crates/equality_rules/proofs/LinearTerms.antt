@@ -18,7 +18,7 @@ use Rattle.term_trees.specs.Linear.{Parts, limited, joined, joined_product, line
 use Rattle.term_trees.proofs.LinearForms.{form-roll, Covers, form-covers, linear-num, linear-add, linear-sub, linear-mul}
 use Rattle.equality_rules.specs.Equality.{together}
 use Rattle.equality_rules.specs.Linear.{concluded_term, is_equation, weighed_term, weighted, sum_after, weighted_sum, is_bounded, is_remainder, is_sum, is_linear}
-use Rattle.equality_rules.specs.Sums.{concluded_form, scaled, total_after, agrees, remains}
+use Rattle.equality_rules.specs.words.Sums.{concluded_form, scaled, total_after, agrees, remains}
 use Rattle.equality_rules.proofs.Coefficients.{iff_same, Represents, each_coefficient, atoms_pass, parts_represent, same_coefficients, coefficients_agree}
 
 -- ---- bounds

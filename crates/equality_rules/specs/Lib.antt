@@ -1,4 +1,4 @@
 pub mod Equality
 pub mod Linear
-pub mod Sums
+pub mod words
 pub mod Rewrite

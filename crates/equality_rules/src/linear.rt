@@ -6,7 +6,7 @@ ghost use Rattle.term_logic.specs.Formulas.{formula_bound, formula_of};
 ghost use Rattle.term_trees.specs.Linear.{shown_form, linear_parts};
 ghost use Rattle.term_logic.specs.Linear.{FormWithin};
 ghost use Rattle.equality_rules.specs.Linear.{difference, strict_difference, is_equation, is_linear};
-ghost use Rattle.equality_rules.specs.Sums.{claimed_form, concluded_form, weighed_form, added, total_after};
+ghost use Rattle.equality_rules.specs.words.Sums.{claimed_form, concluded_form, weighed_form, added, total_after};
 
 use crate::sums::{remains, scaled};
 use std::alloc::Global;

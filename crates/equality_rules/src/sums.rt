@@ -4,7 +4,7 @@ ghost use Rattle.std.specs.Ordering.{int_eq};
 ghost use Rattle.term_logic.specs.Table.{tree_at};
 ghost use Rattle.term_trees.specs.Linear.{shown, shown_form};
 ghost use Rattle.term_logic.specs.Linear.{FormWithin};
-ghost use Rattle.equality_rules.specs.Sums.{scaled, agrees, remains};
+ghost use Rattle.equality_rules.specs.words.Sums.{scaled, agrees, remains};
 
 use std::alloc::Global;
 use term_logic::{Linear, TermId, TermTable, Way};

@@ -1,4 +1,4 @@
-pub mod Claims
 pub mod Fits
 pub mod Rows
 pub mod Truth
+pub mod words

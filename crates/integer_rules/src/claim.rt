@@ -5,7 +5,7 @@ ghost use Rattle.term_trees.specs.declared.term.Formula.TheVariants as formula;
 ghost use Rattle.term_logic.specs.Table.{tree_at};
 ghost use Rattle.term_logic.specs.Formulas.{formula_bound, formula_of};
 ghost use Rattle.term_trees.specs.Same.{same, same_formula};
-ghost use Rattle.integer_rules.specs.Claims.{side_tree, claim_formula, SideWithin, ClaimWithin};
+ghost use Rattle.integer_rules.specs.words.Claims.{side_tree, claim_formula, SideWithin, ClaimWithin};
 ghost use Rattle.wasm_values.specs.declared.number.IntOp.TheVariants.{DivU};
 ghost use Rattle.integer_rules.specs.Rows.{operator, choice, remainder_bounds, divu_row};
 ghost use Rattle.integer_rules.specs.Fits.{same_formulas};

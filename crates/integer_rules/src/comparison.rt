@@ -4,7 +4,7 @@ ghost use Rattle.std.specs.Option.{option_map};
 ghost use Rattle.term_logic.specs.Table.{tree_at};
 ghost use Rattle.term_logic.specs.Formulas.{formula_bound, formula_of};
 ghost use Rattle.integer_rules.specs.Rows.{unsigned_claim, signed_claim};
-ghost use Rattle.integer_rules.specs.Claims.{side_tree, claim_formula, SideWithin, ClaimWithin};
+ghost use Rattle.integer_rules.specs.words.Claims.{side_tree, claim_formula, SideWithin, ClaimWithin};
 ghost use Rattle.integer_rules.specs.Fits.{fits_zero, fits_compared, fits_test, fits_tests};
 
 use crate::claim::{Claim, Side, are_claims, is_choice};

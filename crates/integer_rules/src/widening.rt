@@ -6,7 +6,7 @@ ghost use Rattle.std.specs.Option.{option_map};
 ghost use Rattle.term_logic.specs.Table.{tree_at};
 ghost use Rattle.term_trees.specs.Terms.{is_low_width, is_sext_pair};
 ghost use Rattle.integer_rules.specs.Rows.{changed};
-ghost use Rattle.integer_rules.specs.Claims.{side_tree, SideWithin};
+ghost use Rattle.integer_rules.specs.words.Claims.{side_tree, SideWithin};
 ghost use Rattle.integer_rules.specs.Fits.{fits_changed, fits_low, fits_sext, fits_widen};
 
 use crate::claim::{Claim, Side, are_claims, is_claim, is_split};

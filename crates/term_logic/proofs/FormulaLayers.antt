@@ -16,7 +16,7 @@ use Rattle.term_logic.specs.declared.formula_parts.Connective.{Connective}
 use Rattle.term_logic.specs.declared.formula_parts.Connective.TheVariants.{Both, Either, Follows}
 use Rattle.term_logic.specs.Table.{tree_at}
 use Rattle.term_logic.specs.Formulas.{bound_here, formula_bound, formula_of}
-use Rattle.term_logic.specs.FormulaParts.{compared, compared_ids, joined, joined_ids}
+use Rattle.term_logic.specs.words.FormulaParts.{compared, compared_ids, joined, joined_ids}
 use Rattle.term_logic.proofs.Formulas.{formula_of-eq, formula_of-le, formula_of-lt, formula_of-and, formula_of-or, formula_of-imp}
 
 -- ---- two terms that are compared

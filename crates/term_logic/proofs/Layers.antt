@@ -13,7 +13,7 @@ use Rattle.term_logic.specs.declared.table.TermCell.TheVariants as cell
 use Rattle.term_logic.specs.declared.leaves.LeafIds.{LeafIds}
 use Rattle.term_logic.specs.Table.{cell_layer, CellWithin, tree_at, tree_here, cell_nodes, well_formed_cell}
 use Rattle.term_logic.specs.Leaves.{leaves_of, LeavesWithin}
-use Rattle.term_logic.specs.Parts.{parts_here, with_parts, given_here, given_id}
+use Rattle.term_logic.specs.words.Parts.{parts_here, with_parts, given_here, given_id}
 use Rattle.term_logic.proofs.Trees.{node_count_tree_here}
 
 abbrev pub sum : List ℕ → ℕ

@@ -4,8 +4,10 @@ pub mod Interned
 pub mod Layers
 pub mod FormulaLayers
 pub mod FormulaNodes
-pub mod NoLeaves
 pub mod Tables
 pub mod Trees
 pub mod Comparisons
 pub mod LinearCells
+pub mod IdLayers
+pub mod IdFormulas
+pub mod ScopeCells

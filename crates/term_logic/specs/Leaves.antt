@@ -1,5 +1,5 @@
 -- Positions of a table in place of leaves, and the trees that they stand for.
-use Rattle.std.specs.Prelude.{ℕ, ◌<◌, List, reverse, slice_get, Option, None, option_and_then, IfSome}
+use Rattle.std.specs.Prelude.{ℕ, ◌<◌, List, reverse, slice_get, Option, option_and_then, IfSome}
 use Rattle.std.specs.Option.{option_map}
 use Rattle.term_trees.specs.declared.term.Place.{Place}
 use Rattle.term_trees.specs.declared.term.Place.TheVariants.{Local, Stack, Global, Pages, Arg, Result, Index, Item}
@@ -16,8 +16,8 @@ place_id l (Global k) = option_and_then (λ e. e) (slice_get l.globals.now k)
 place_id l Pages = l.pages
 place_id l (Arg k) = slice_get l.args.now k
 place_id l Result = l.result
-place_id l Index = None
-place_id l Item = None
+place_id l Index = l.index
+place_id l Item = l.item
 
 -- The trees of the positions.
 abbrev pub leaves_of : List Term → LeafIds → Leaves
@@ -25,14 +25,6 @@ leaves_of ts l = record {
   variable = λ k. option_map (tree_at ts) (slice_get l.variables.now k);
   own = λ k. option_map (tree_at ts) (slice_get l.own.now k);
   place = λ p. option_map (tree_at ts) (place_id l p);
-}
-
--- No leaf has a tree in its place.
-abbrev pub no_leaves : Leaves
-no_leaves = record {
-  variable = λ k. None;
-  own = λ k. None;
-  place = λ p. None;
 }
 
 -- all positions are below n

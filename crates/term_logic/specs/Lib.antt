@@ -1,8 +1,7 @@
-pub mod CellParts
 pub mod Extends
 pub mod Formulas
-pub mod FormulaParts
 pub mod Leaves
 pub mod Linear
-pub mod Parts
+pub mod Scopes
 pub mod Table
+pub mod words

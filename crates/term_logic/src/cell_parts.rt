@@ -1,5 +1,5 @@
 ghost use Rattle.std.specs.Prelude.{◌≡◌};
-ghost use Rattle.term_logic.specs.CellParts.{one_tree, two_tree, made_cell};
+ghost use Rattle.term_logic.specs.words.CellParts.{one_tree, two_tree, made_cell};
 
 use crate::table::{TermCell, TermId};
 use term_trees::{Boxed, Place, Term};

@@ -1,5 +1,5 @@
 ghost use Rattle.std.specs.Prelude.{◌≡◌};
-ghost use Rattle.term_logic.specs.FormulaParts.{compared_ids, joined_ids, made_of};
+ghost use Rattle.term_logic.specs.words.FormulaParts.{compared_ids, joined_ids, made_of};
 
 use crate::formula::IdFormula;
 use crate::table::TermId;

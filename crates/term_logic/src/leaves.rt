@@ -1,12 +1,15 @@
-ghost use Rattle.std.specs.Prelude.{◌≡◌, List, ℕ, slice_get};
+ghost use Rattle.std.specs.Prelude.{◌≡◌, ◌<◌, List, [], ℕ, slice_get};
 ghost use Rattle.term_trees.specs.declared.term.Term.{Term};
-ghost use Rattle.term_logic.specs.Leaves.{leaves_of, no_leaves, place_id, LeavesWithin};
+ghost use Rattle.term_trees.specs.Leaves.{no_leaves};
+ghost use Rattle.term_logic.specs.Leaves.{leaves_of, place_id, LeavesWithin};
 
 use crate::table::TermId;
 use term_trees::Place;
 use wasm_values::ValType;
 
 /// The terms of a table that stand for the leaves of a term. A leaf past the end of its list has none.
+///
+/// `none` makes one, and the calls after it say what it has.
 #[derive(Clone, Copy)]
 pub struct LeafIds<'a> {
     pub variables: &'a [TermId],
@@ -18,6 +21,8 @@ pub struct LeafIds<'a> {
     pub pages: Option<TermId>,
     pub args: &'a [TermId],
     pub result: Option<TermId>,
+    pub index: Option<TermId>,
+    pub item: Option<TermId>,
 }
 
 impl<'a> LeafIds<'a> {
@@ -25,6 +30,16 @@ impl<'a> LeafIds<'a> {
     pub fn none() -> LeafIds<'a>
         ensures trees { (ts : List Term) → leaves_of ts result ≡ no_leaves }
         ensures within { (n : ℕ) → LeavesWithin n result }
+        ensures variables { result.variables.now ≡ [] }
+        ensures own { result.own.now ≡ [] }
+        ensures locals { result.locals.now ≡ [] }
+        ensures stack { result.stack.now ≡ [] }
+        ensures globals { result.globals.now ≡ [] }
+        ensures pages { result.pages ≡ None }
+        ensures args { result.args.now ≡ [] }
+        ensures results { result.result ≡ None }
+        ensures index { result.index ≡ None }
+        ensures item { result.item ≡ None }
     {
         LeafIds {
             variables: &[],
@@ -35,6 +50,68 @@ impl<'a> LeafIds<'a> {
             pages: None,
             args: &[],
             result: None,
+            index: None,
+            item: None,
+        }
+    }
+
+    pub fn with_variables(self, variables: &'a [TermId]) -> LeafIds<'a>
+        ensures { result ≡ record self.entry { variables = variables.entry } }
+    {
+        LeafIds { variables, ..self }
+    }
+
+    pub fn with_own(self, own: &'a [TermId]) -> LeafIds<'a>
+        ensures { result ≡ record self.entry { own = own.entry } }
+    {
+        LeafIds { own, ..self }
+    }
+
+    pub fn with_locals(self, locals: &'a [(ValType, TermId)]) -> LeafIds<'a>
+        ensures { result ≡ record self.entry { locals = locals.entry } }
+    {
+        LeafIds { locals, ..self }
+    }
+
+    pub fn with_stack(self, stack: &'a [(ValType, TermId)]) -> LeafIds<'a>
+        ensures { result ≡ record self.entry { stack = stack.entry } }
+    {
+        LeafIds { stack, ..self }
+    }
+
+    pub fn with_globals(self, globals: &'a [Option<TermId>]) -> LeafIds<'a>
+        ensures { result ≡ record self.entry { globals = globals.entry } }
+    {
+        LeafIds { globals, ..self }
+    }
+
+    pub fn with_pages(self, pages: Option<TermId>) -> LeafIds<'a>
+        ensures { result ≡ record self.entry { pages = pages } }
+    {
+        LeafIds { pages, ..self }
+    }
+
+    pub fn with_args(self, args: &'a [TermId]) -> LeafIds<'a>
+        ensures { result ≡ record self.entry { args = args.entry } }
+    {
+        LeafIds { args, ..self }
+    }
+
+    pub fn with_result(self, id: Option<TermId>) -> LeafIds<'a>
+        ensures { result ≡ record self.entry { result = id } }
+    {
+        LeafIds { result: id, ..self }
+    }
+
+    /// The terms for `(index)` and `(item)`.
+    pub fn with_cell(self, index: TermId, item: TermId) -> LeafIds<'a>
+        ensures same { result ≡ record self.entry { index = Some index; item = Some item } }
+        ensures within { (n : ℕ) → LeavesWithin n self.entry → index < n → item < n → LeavesWithin n result }
+    {
+        LeafIds {
+            index: Some(index),
+            item: Some(item),
+            ..self
         }
     }
 }
@@ -78,7 +155,8 @@ impl LeafIds<'_> {
             Place::Pages => self.pages,
             Place::Arg(k) => self.args.get(k as usize).copied(),
             Place::Result => self.result,
-            Place::Index | Place::Item => None,
+            Place::Index => self.index,
+            Place::Item => self.item,
         }
     }
 }

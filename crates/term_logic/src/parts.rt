@@ -1,7 +1,7 @@
 ghost use Rattle.std.specs.Prelude.{◌≡◌};
 ghost use Rattle.term_trees.specs.declared.term.Term.{out-Term};
 ghost use Rattle.term_logic.specs.Table.{cell_layer};
-ghost use Rattle.term_logic.specs.Parts.{given_id, with_parts, PartsOf};
+ghost use Rattle.term_logic.specs.words.Parts.{given_id, with_parts, PartsOf};
 
 use crate::leaves::LeafIds;
 use crate::table::{TermCell, TermId};

@@ -75,5 +75,3 @@ truth-or f g = ap ground_truth (sym (form.rolls-Or f g)) ∙ truth-roll (layer.O
 
 pub truth-imp : (f g : Formula) → ground_truth (form.Imp f g) ≡ option_map (λ p. not p.0 || p.1) (both (ground_truth f) (ground_truth g))
 truth-imp f g = ap ground_truth (sym (form.rolls-Imp f g)) ∙ truth-roll (layer.Imp f g) ∙ pair_truths (λ a b. not a || b) f g
-
-pub ruleset truth_forms = (truth-true, truth-false, truth-eq, truth-le, truth-lt, truth-not, truth-and, truth-or, truth-imp)

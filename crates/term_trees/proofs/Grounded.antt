@@ -1,5 +1,5 @@
 -- The ground value of a term, by its outermost form.
-use Rattle.std.proofs.Common.{◌≡◌, ℕ, ◌<◌, ◌^◌, ℤ, pos, ◌+ℤ◌, ◌-ℤ◌, ◌*ℤ◌, Bool, true, false, ◌&&◌, List, [], ◌∷◌, ◌++◌, Option, Some, None, refl, sym, ap, ◌∙◌, arith}
+use Rattle.std.proofs.Common.{◌≡◌, ℕ, ◌<◌, ◌^◌, ℤ, pos, ◌+ℤ◌, ◌-ℤ◌, ◌*ℤ◌, Bool, true, false, ◌&&◌, List, [], ◌∷◌, ◌++◌, Some, None, refl, sym, ap, ◌∙◌, arith}
 use Rattle.std.specs.Prelude.{option_and_then, unwrap_or, if◌then◌else◌, unsigned_abs}
 use Rattle.std.specs.List.{list_all}
 use Rattle.std.proofs.lemmas.Int.{to_z-of_z, fits_signed_from_abs}
@@ -113,23 +113,6 @@ ground-sext k n a = ap ground_value (sym (rolls-Sext k n a)) ∙ ground_value-ro
 
 pub ground-sgn : (n : ℕ) (a : Term) → ground_value (term.Sgn n a) ≡ option_and_then (λ x. bounded (signed n (modulo x (2 ^ n)))) (ground_value a)
 ground-sgn n a = ap ground_value (sym (rolls-Sgn n a)) ∙ ground_value-roll (Sgn n a) ∙ value_one (λ x. signed n (modulo x (2 ^ n))) a
-
-pub ruleset ground_forms = (ground-num, ground-var, ground-own, ground-at, ground-add, ground-sub, ground-mul, ground-one, ground-two, ground-low, ground-sext, ground-sgn)
-
--- what the code shows of a signed reading, and of an operator of two operands
-pub ground-sgn_at : (t : Term) (n : ℕ) (a b : Term) (x r : ℤ) (o : Option ℤ) → t ≡ term.Sgn n a → b ≡ a → Some x ≡ ground_value b
-    → r ≡ signed n (modulo x (2 ^ n)) → o ≡ bounded r → o ≡ ground_value t
-ground-sgn_at t n a b x r o is same got computed given =
-    given ∙ ap bounded computed
-    ∙ ap (option_and_then (λ x. bounded (signed n (modulo x (2 ^ n))))) (got ∙ ap ground_value same)
-    ∙ sym (ap ground_value is ∙ ground-sgn n a)
-
-pub ground-two_at : (t : Term) (op : NumOp) (a b c d : Term) (x y r : ℤ) (o : Option ℤ) → t ≡ term.Two op a b → c ≡ a → d ≡ b → Some (x, y) ≡ both (ground_value c) (ground_value d)
-    → r ≡ pos (unwrap_or (num_binary op (modulo x (2 ^ num_width op)) (modulo y (2 ^ num_width op))) 0) → o ≡ bounded r → o ≡ ground_value t
-ground-two_at t op a b c d x y r o is first second got computed given =
-    given ∙ ap bounded computed
-    ∙ ap (option_and_then (λ p. bounded (pos (unwrap_or (num_binary op (modulo p.0 (2 ^ num_width op)) (modulo p.1 (2 ^ num_width op))) 0)))) (got ∙ (λ j. both (ground_value (first j)) (ground_value (second j))))
-    ∙ sym (ap ground_value is ∙ ground-two op a b)
 
 -- a small number is kept as it is
 pub stored : (x : ℤ) → unsigned_abs x < 2 ^ 120 → to_z w128 (of_z w128 x) ≡ x

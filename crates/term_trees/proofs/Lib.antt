@@ -13,3 +13,6 @@ pub mod Replacing
 pub mod NormalValue
 pub mod NormalSound
 pub mod GroundLaws
+pub mod NoLeaves
+pub mod Agreeing
+pub mod CellTruths

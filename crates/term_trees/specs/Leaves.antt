@@ -1,5 +1,5 @@
 -- Terms and formulas with trees in place of their leaves.
-use Rattle.std.specs.Prelude.{◌≡◌, ℕ, pos, slice_index_or, Option, unwrap_or}
+use Rattle.std.specs.Prelude.{◌≡◌, ℕ, pos, slice_index_or, Option, None, unwrap_or}
 use Rattle.std.specs.Option.{option_map_or}
 use Rattle.term_trees.specs.declared.term.Place.{Place}
 use Rattle.term_trees.specs.declared.term.Term.{Term, fold-Term}
@@ -17,6 +17,14 @@ pub record Leaves : Type 0 where
   pub variable : ℕ → Option Term
   pub own : ℕ → Option Term
   pub place : Place → Option Term
+
+-- No leaf has a tree in its place.
+abbrev pub no_leaves : Leaves
+no_leaves = record {
+  variable = λ k. None;
+  own = λ k. None;
+  place = λ p. None;
+}
 
 -- one layer, its parts with their leaves replaced: where it is a leaf, it is replaced itself
 abbrev pub replaced_here : Leaves → Term-F Term → Term

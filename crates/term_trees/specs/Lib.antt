@@ -4,7 +4,10 @@ pub mod Leaves
 pub mod Linear
 pub mod Meaning
 pub mod Normal
+pub mod Rows
 pub mod Same
+pub mod Scopes
 pub mod Terms
 pub mod Views
 pub mod formers
+pub mod words

@@ -7,7 +7,7 @@ use Rattle.bitvector_rules.specs.Facts.{AllWithin}
 use Rattle.bitvector_rules.specs.Goals.{goal_of, step_goals, GoalsWithin}
 use Rattle.bitvector_rules.specs.Steps.{all_admissible}
 use Rattle.derivation_check.specs.Derivations.{derives}
-use Rattle.derivation_check.specs.Facts.{hyps_at, earlier_at, facts_at}
+use Rattle.derivation_check.specs.words.Facts.{hyps_at, earlier_at, facts_at}
 use Rattle.bitvector_rules.specs.declared.step.Step.{out-Step}
 use Rattle.derivation_check.proofs.FactLemmas.{extends_trans, within_more, goals_more, facts_kept, goals_kept, goals_tail, all_facts}
 use Rattle.derivation_check.proofs.Progress.{Progress, stopped, next}

@@ -4,7 +4,7 @@ use Rattle.term_logic.specs.Formulas.{formula_of}
 use Rattle.term_trees.specs.Same.{passes, same_formula}
 use Rattle.bitvector_rules.specs.Goals.{last_formula}
 use Rattle.derivation_check.specs.Derivations.{good_steps}
-use Rattle.derivation_check.specs.Facts.{hyps_at, earlier_at}
+use Rattle.derivation_check.specs.words.Facts.{hyps_at, earlier_at}
 use Rattle.derivation_check.proofs.StepLemmas.{answer_yes, answer_ends, answer_bad}
 use Rattle.derivation_check.proofs.check.check_derivation.Goals.{else-good-len-via-then-good-len+else-ends_with, else-good-len-via-else-good-len}
 use Rattle.derivation_check.proofs.check.check_derivation.Goals as goal

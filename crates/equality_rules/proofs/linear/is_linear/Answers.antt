@@ -4,7 +4,7 @@ use Rattle.term_logic.specs.Table.{tree_at}
 use Rattle.term_logic.specs.Formulas.{formula_of}
 use Rattle.term_trees.specs.Linear.{shown_form}
 use Rattle.equality_rules.specs.Linear.{is_equation}
-use Rattle.equality_rules.specs.Sums.{concluded_form, total_after, remains}
+use Rattle.equality_rules.specs.words.Sums.{concluded_form, total_after, remains}
 use Rattle.equality_rules.proofs.LinearTerms.{linear-unformed, linear-high, linear-settled}
 use Rattle.equality_rules.proofs.linear.is_linear.Goals as goal
 use Rattle.equality_rules.proofs.linear.is_linear.Goals.{else-none-via-then-none+else-not-are_equations, else-none-via-else-none}

@@ -3,7 +3,7 @@ use Rattle.term_logic.specs.Table.{tree_at}
 use Rattle.term_logic.specs.Formulas.{formula_of}
 use Rattle.term_trees.specs.Linear.{shown_form}
 use Rattle.term_logic.specs.Linear.{FormWithin}
-use Rattle.equality_rules.specs.Sums.{total_after}
+use Rattle.equality_rules.specs.words.Sums.{total_after}
 use Rattle.equality_rules.proofs.linear.total.Given as goal
 
 abbrev pub invariant-loop-f : goal.invariant-loop-f

@@ -1,7 +1,7 @@
 use Rattle.std.proofs.Common.{◌≡◌, drop}
 use Rattle.term_logic.specs.Table.{tree_at}
 use Rattle.term_trees.specs.Linear.{shown}
-use Rattle.equality_rules.specs.Sums.{agrees}
+use Rattle.equality_rules.specs.words.Sums.{agrees}
 use Rattle.equality_rules.proofs.sums.agrees.Given as goal
 
 abbrev pub invariant-loop-atom : goal.invariant-loop-atom

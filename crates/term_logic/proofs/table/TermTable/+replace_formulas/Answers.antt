@@ -4,7 +4,7 @@ use Rattle.term_trees.specs.Formulas.{formula_nodes, well_formed_formula}
 use Rattle.term_trees.specs.Leaves.{replaced, replaced_formula}
 use Rattle.term_logic.specs.Leaves.{leaves_of}
 use Rattle.term_logic.specs.Formulas.{formula_bound, formula_of}
-use Rattle.term_logic.specs.FormulaParts.{compared, joined}
+use Rattle.term_logic.specs.words.FormulaParts.{compared, joined}
 use Rattle.term_logic.proofs.FormulaLayers.{nodes-compared, sound-compared, replaced-compared, of-compared, bound-compared, nodes-not, sound-not, replaced-not, nodes-joined, sound-joined, replaced-joined, of-joined, bound-joined}
 use Rattle.term_logic.proofs.table.TermTable.+replace_formulas.Goals as goal
 

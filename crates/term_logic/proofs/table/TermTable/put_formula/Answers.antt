@@ -1,7 +1,7 @@
 use Rattle.std.proofs.Common.{◌≡◌, ◌≤◌, IfOk, sym, subst}
 use Rattle.term_trees.specs.Formulas.{formula_nodes}
 use Rattle.term_logic.specs.Formulas.{formula_of}
-use Rattle.term_logic.proofs.NoLeaves.{formula_kept}
+use Rattle.term_trees.proofs.NoLeaves.{formula_kept}
 use Rattle.term_logic.proofs.table.TermTable.put_formula.Goals as goal
 
 pub put_replaced_formula-requires-clause-small : goal.put_replaced_formula-requires-clause-small

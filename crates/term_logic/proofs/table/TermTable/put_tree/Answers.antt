@@ -1,7 +1,7 @@
 use Rattle.std.proofs.Common.{◌≡◌, ◌≤◌, IfOk, sym, subst}
 use Rattle.term_trees.specs.Terms.{node_count}
 use Rattle.term_logic.specs.Table.{tree_at}
-use Rattle.term_logic.proofs.NoLeaves.{term_kept}
+use Rattle.term_trees.proofs.NoLeaves.{term_kept}
 use Rattle.term_logic.proofs.table.TermTable.put_tree.Goals as goal
 
 pub put_replaced-requires-clause-small : goal.put_replaced-requires-clause-small

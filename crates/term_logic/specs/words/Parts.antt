@@ -1,11 +1,13 @@
 -- One layer of a term and its parts.
-use Rattle.std.specs.Prelude.{◌≡◌, ℕ, List, [], ◌∷◌, slice_get, Option, None}
+use Rattle.std.specs.Prelude.{◌≡◌, ℕ, ◌<◌, List, [], ◌∷◌, slice_get, Option, None}
 use Rattle.term_trees.specs.declared.term.Term.{Term, out-Term}
 use Rattle.term_trees.specs.declared.term.Term.TheOpen.{Term-F, Num, Var, Own, At, Add, Sub, Mul, One, Two, Low, Sext, Sgn}
 use Rattle.term_logic.specs.declared.leaves.LeafIds.{LeafIds}
 use Rattle.term_logic.specs.declared.parts.Parts.{Parts}
 use Rattle.term_logic.specs.declared.parts.Parts.TheVariants as parts
-use Rattle.term_logic.specs.Table.{cell_layer}
+use Rattle.term_logic.specs.declared.id_parts.IdParts.{IdParts}
+use Rattle.term_logic.specs.declared.id_parts.IdParts.TheVariants as ids
+use Rattle.term_logic.specs.Table.{cell_layer, tree_at}
 use Rattle.term_logic.specs.Leaves.{place_id}
 
 -- the parts of one layer
@@ -54,3 +56,15 @@ abbrev pub PartsOf : Term-F Term → Parts → Type 0
 PartsOf k (parts.Leaf c) = (parts_here k ≡ []) × (cell_layer c ≡ with_parts 0 0 k)
 PartsOf k (parts.One a) = parts_here k ≡ a.now ∷ []
 PartsOf k (parts.Two a b) = parts_here k ≡ a.now ∷ b.now ∷ []
+
+-- these are positions of the parts of one layer
+abbrev pub IdPartsOf : List Term → Term-F Term → IdParts → Type 0
+IdPartsOf ts k ids.Leaf = parts_here k ≡ []
+IdPartsOf ts k (ids.One a) = parts_here k ≡ tree_at ts a ∷ []
+IdPartsOf ts k (ids.Two a b) = parts_here k ≡ tree_at ts a ∷ tree_at ts b ∷ []
+
+-- the parts are positions below n
+abbrev pub IdPartsBelow : ℕ → IdParts → Type 0
+IdPartsBelow n ids.Leaf = Unit {0}
+IdPartsBelow n (ids.One a) = a < n
+IdPartsBelow n (ids.Two a b) = (a < n) × (b < n)

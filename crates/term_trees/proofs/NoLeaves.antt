@@ -7,9 +7,8 @@ use Rattle.term_trees.specs.declared.term.Formula.{Formula, roll-Formula, map-Fo
 use Rattle.term_trees.specs.declared.term.Formula.TheOpen as layer
 use Rattle.term_trees.specs.declared.term.Formula.TheOpen.{Formula-F}
 use Rattle.term_trees.specs.declared.term.Formula.TheVariants as form
-use Rattle.term_trees.specs.Leaves.{Leaves, replaced_here, replaced, replaced_formula_here, replaced_formula}
+use Rattle.term_trees.specs.Leaves.{Leaves, no_leaves, replaced_here, replaced, replaced_formula_here, replaced_formula}
 use Rattle.term_trees.proofs.Sameness.{induct, map_map, induct_formula, map_map_form}
-use Rattle.term_logic.specs.Leaves.{no_leaves}
 
 abbrev Stays : Term → Type 0
 Stays t = replaced no_leaves t ≡ t

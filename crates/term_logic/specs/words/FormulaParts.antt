@@ -11,6 +11,8 @@ use Rattle.term_logic.specs.declared.formula_parts.Connective.{Connective}
 use Rattle.term_logic.specs.declared.formula_parts.Connective.TheVariants.{Both, Either, Follows}
 use Rattle.term_logic.specs.declared.formula_parts.FormulaParts.{FormulaParts}
 use Rattle.term_logic.specs.declared.formula_parts.FormulaParts.TheVariants as parts
+use Rattle.term_logic.specs.declared.id_formula_parts.IdFormulaParts.{IdFormulaParts}
+use Rattle.term_logic.specs.declared.id_formula_parts.IdFormulaParts.TheVariants as ids
 
 -- two terms that are compared
 abbrev pub compared : Relation → Term → Term → Formula
@@ -43,3 +45,11 @@ made_of parts.False = tree.False
 made_of (parts.Compared r a b) = compared r a.now b.now
 made_of (parts.Not f) = tree.Not f.now
 made_of (parts.Joined c f g) = joined c f.now g.now
+
+-- the formula over a table that the parts make
+abbrev pub made_of_ids : IdFormulaParts → IdFormula
+made_of_ids ids.True = form.True
+made_of_ids ids.False = form.False
+made_of_ids (ids.Compared r a b) = compared_ids r a b
+made_of_ids (ids.Not f) = form.Not f.now
+made_of_ids (ids.Joined c f g) = joined_ids c f.now g.now

@@ -1,0 +1,4 @@
+pub mod CellParts
+pub mod FormulaParts
+pub mod Parts
+pub mod Scopes
