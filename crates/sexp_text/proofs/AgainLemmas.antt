@@ -69,7 +69,7 @@ writes_decimal (negsuc n) h = (decimal (suc n), refl, decimal_writes (suc n) h (
 -- what has a spelling
 abbrev Good : Item → Type 0
 Good (Open at) = Unit {0}
-Good Close = Unit {0}
+Good (Close at) = Unit {0}
 Good (Number at z) = Below z
 Good (Name at w) = IsWord w
 Good (Quote at s) = IsUtf8 s
@@ -79,7 +79,7 @@ AllGood = AllByRecursion Good
 
 good_mark : (x : Item) (mark : List ℕ) → Marks x mark → Good x
 good_mark (Open at) mark m = tt
-good_mark Close mark m = tt
+good_mark (Close at) mark m = tt
 good_mark (Number at z) mark m = number_below mark z m
 good_mark (Name at w) mark m = m.1
 good_mark (Quote at s) mark m = m.1
@@ -123,24 +123,24 @@ abbrev PartsAgain : {k : _} → Row_of-Sexp k → List ℕ → ℕ → List ℕ 
 PartsAgain row text n rest ys =
     (parts : List Sexp) × (trees_of parts ≡ trees_of_row row) × (depth_all parts ≡ depth_of_row row) × Spelled n (text ++ rest) (items_of_all parts ++ ys)
 
-list_again : (at : ℕ) (shape : _) (row : Row_of-Sexp _) (n : ℕ) (rest : List ℕ) (ys : List Item) → length (printed_node (List' shape row) ++ rest) ≤ n →
-    PartsAgain row (printed_row row) n (41 ∷ rest) (Close ∷ ys) → NodeAgain (List' shape row) n rest ys
+list_again : (at close end : ℕ) (shape : _) (row : Row_of-Sexp _) (n : ℕ) (rest : List ℕ) (ys : List Item) → length (printed_node (List' shape row close) ++ rest) ≤ n →
+    PartsAgain row (printed_row row) n (41 ∷ rest) (Close end ∷ ys) → NodeAgain (List' shape row close) n rest ys
 unfolding items_of
-list_again at shape row n rest ys l p =
+list_again at close end shape row n rest ys l p =
     let parts = p.0 in
-    let from = n - length (printed_node (List' shape row) ++ rest) in
-    let here = place_of (length (printed_node (List' shape row) ++ rest)) n l in
-    let inside : Spelled n ((printed_row row ++ 41 ∷ []) ++ rest) ((items_of_all parts ++ Close ∷ []) ++ ys) =
-    subst (λ xs. Spelled n ((printed_row row ++ 41 ∷ []) ++ rest) xs) (sym (append_assoc (items_of_all parts) (Close ∷ []) ys))
-    (subst (λ bs. Spelled n bs (items_of_all parts ++ Close ∷ ys)) (sym (append_assoc (printed_row row) (41 ∷ []) rest)) p.3) in
-    let whole : Spelled n (printed_node (List' shape row) ++ rest) (Open from ∷ ((items_of_all parts ++ Close ∷ []) ++ ys)) =
+    let from = n - length (printed_node (List' shape row close) ++ rest) in
+    let here = place_of (length (printed_node (List' shape row close) ++ rest)) n l in
+    let inside : Spelled n ((printed_row row ++ 41 ∷ []) ++ rest) ((items_of_all parts ++ Close end ∷ []) ++ ys) =
+    subst (λ xs. Spelled n ((printed_row row ++ 41 ∷ []) ++ rest) xs) (sym (append_assoc (items_of_all parts) (Close end ∷ []) ys))
+    (subst (λ bs. Spelled n bs (items_of_all parts ++ Close end ∷ ys)) (sym (append_assoc (printed_row row) (41 ∷ []) rest)) p.3) in
+    let whole : Spelled n (printed_node (List' shape row close) ++ rest) (Open from ∷ ((items_of_all parts ++ Close end ∷ []) ++ ys)) =
     ([], 40 ∷ [], (printed_row row ++ 41 ∷ []) ++ rest, refl, nothing, refl, here, tt, inside) in (
       from,
-      node.List parts,
-      tree_of_node-List parts ∙ ap Branch p.1,
-      depth_of_node-List parts ∙ ap (λ d. d + 1) p.2,
+      node.List parts end,
+      tree_of_node-List parts end ∙ ap Branch p.1,
+      depth_of_node-List parts end ∙ ap (λ d. d + 1) p.2,
       (λ _. tt),
-      subst (λ xs. Spelled n (printed_node (List' shape row) ++ rest) (xs ++ ys)) (sym (items_of-List from parts)) whole,
+      subst (λ xs. Spelled n (printed_node (List' shape row close) ++ rest) (xs ++ ys)) (sym (items_of-List from end parts)) whole,
     )
 
 cons_again : (node : Node) {k : _} (others : Row_of-Sexp k) (text : List ℕ) (n : ℕ) (rest : List ℕ) (ys : List Item) →
@@ -168,12 +168,14 @@ mutual
   node_again (Str x) at h n rest ys e s l =
       let from = n - length (quoted x ++ rest) in
       (from, Str x, refl, refl, (λ x. x), ([], quoted x, rest, refl, nothing, (refl, h.0), place_of (length (quoted x ++ rest)) n l, tt, s))
-  node_again (List' shape row) at h n rest ys e s l =
-      let inside = (good_split (row_items row) (Close ∷ []) h.1).0 in
-      let after : Spelled n (41 ∷ rest) (Close ∷ ys) = ([], 41 ∷ [], rest, refl, nothing, refl, tt, tt, s) in
+  node_again (List' shape row close) at h n rest ys e s l =
+      let inside = (good_split (row_items row) (Close close ∷ []) h.1).0 in
       let short : length (printed_row row ++ 41 ∷ rest) ≤ n =
       let same = ap length (append_assoc (printed_row row) (41 ∷ []) rest) in omega (arith, l, same) in
-      list_again at shape row n rest ys l (row_again row inside n (41 ∷ rest) (Close ∷ ys) close_ends after short)
+      let end = n - length (41 ∷ rest) in
+      let room : length (41 ∷ rest) ≤ n = omega (arith, short, length-append (printed_row row) (41 ∷ rest)) in
+      let after : Spelled n (41 ∷ rest) (Close end ∷ ys) = ([], 41 ∷ [], rest, refl, nothing, refl, place_of (length (41 ∷ rest)) n room, tt, s) in
+      list_again at close end shape row n rest ys l (row_again row inside n (41 ∷ rest) (Close end ∷ ys) close_ends after short)
 
   row_again : {k : _} (row : Row_of-Sexp k) → AllGood (row_items row) → (n : ℕ) (rest : List ℕ) (ys : List Item) → EndsRun rest → Spelled n rest ys →
       length (printed_row row ++ rest) ≤ n → PartsAgain row (printed_row row) n rest ys

@@ -1,5 +1,5 @@
 -- What is spelled so is read.
-use Rattle.std.proofs.Common.{◌≡◌, ℕ, zero, suc, ◌+◌, ◌<◌, List, [], ◌∷◌, ◌++◌, length, Ok, refl, sym, ap, ◌∙◌, subst, length-append, arith}
+use Rattle.std.proofs.Common.{◌≡◌, ℕ, ◌+◌, ◌<◌, List, [], ◌∷◌, ◌++◌, length, Ok, refl, sym, ap, ◌∙◌, subst, length-append, arith}
 use Rattle.sexp_text.specs.declared.reader.Mode.TheVariants.{Between}
 use Rattle.sexp_text.specs.declared.sexp.Sexp.{Sexp}
 use Rattle.sexp_text.specs.Items.{Item, Open, Close, Number, Name, Quote, items_of}
@@ -8,13 +8,6 @@ use Rattle.sexp_text.specs.Spelling.{quoted, EndsRun, Marks, StandsAt, StandsApa
 use Rattle.sexp_text.proofs.NumberLemmas.{writes_number, number_items, writes_word, word_items}
 use Rattle.sexp_text.proofs.PutLemmas.{put_part, put, puts, bound, whole_puts}
 use Rattle.sexp_text.proofs.ReadLemmas.{AreRun, go_on, go_on-mode, step_open, step_close, place, gap_read, last_gap_read, run_read, string_read}
-
-closed_anywhere : (p : ℕ) (front g : Front) → closed 0 front ≡ Ok g → closed p front ≡ Ok g
-unfolding closed
-closed_anywhere p Before g e = cc
-closed_anywhere p (Inside items zero) g e = e
-closed_anywhere p (Inside items (suc k)) g e = e
-closed_anywhere p (After items) g e = cc
 
 -- what a part does where it is put stands in a list
 part_inside : (x : Item) (front g : Front) → put_part x front ≡ Ok g →
@@ -44,10 +37,12 @@ mark_read (Open at) mark rest n p front g m s a l e =
     ap (go_on (p + 1) rest) (step_open p front) ∙ go_on-mode (p + 1) rest Between (opened p front) ∙
     ap (λ r. r >>= λ f. read_from (p + 1) rest f Between) e1 ∙
     place _ _ rest g Between (ap (λ bs. p + length bs) (sym m))
-mark_read Close mark rest n p front g m s a l e =
+mark_read (Close at) mark rest n p front g m s a l e =
+    let here : at ≡ p = omega arith in
+    let e1 : closed p front ≡ Ok g = subst (λ q. closed q front ≡ Ok g) here e in
     ap (λ bs. read_from p (bs ++ rest) front Between) m ∙
     ap (go_on (p + 1) rest) (step_close p front) ∙ go_on-mode (p + 1) rest Between (closed p front) ∙
-    ap (λ r. r >>= λ f. read_from (p + 1) rest f Between) (closed_anywhere p front g e) ∙
+    ap (λ r. r >>= λ f. read_from (p + 1) rest f Between) e1 ∙
     place _ _ rest g Between (ap (λ bs. p + length bs) (sym m))
 mark_read (Number at z) mark rest n p front g m s a l e =
     let here : p ≡ at = omega arith in

@@ -39,7 +39,7 @@ no_map f None e = refl
 no_map f (Some n) e = cc
 
 -- the run begins as a number
-begins_again : (run : List ℕ) (b : ℕ) → begins_number run ≡ true → begins_number (run ++ b ∷ []) ≡ true
+pub begins_again : (run : List ℕ) (b : ℕ) → begins_number run ≡ true → begins_number (run ++ b ∷ []) ≡ true
 unfolding begins_number
 begins_again [] b e = cc
 begins_again (c ∷ []) b e = rw e refl
@@ -79,7 +79,7 @@ names_stay (c ∷ cs) b h = by_name (is_name_byte c) (names_stay cs b) h
     by_name true more h = ap (λ n. 1 + n) (more (λ e. h (omega (arith, e))))
     by_name false more h = refl
 
-word_end_stays : (run : List ℕ) (b : ℕ) → (word_end run ≡ length run → ⊥) → word_end (run ++ b ∷ []) ≡ word_end run
+pub word_end_stays : (run : List ℕ) (b : ℕ) → (word_end run ≡ length run → ⊥) → word_end (run ++ b ∷ []) ≡ word_end run
 unfolding word_end
 word_end_stays [] b h = absurd (h refl)
 word_end_stays (c ∷ cs) b h = by_letter (is_letter c) h
@@ -141,7 +141,7 @@ run_stays from run b fault e = by_begin (begins_number run) refl e
     by_begin false t e = by_end (eqb (word_end run) (length run)) refl t e
 
 -- the rest of a text after a run with a fault does not matter
-run_fault : (more : List ℕ) (p from : ℕ) (run : List ℕ) (front : Front) (fault : TextFault) → run_items from run ≡ Err fault →
+pub run_fault : (more : List ℕ) (p from : ℕ) (run : List ℕ) (front : Front) (fault : TextFault) → run_items from run ≡ Err fault →
     read_from p more front (Run from run) ≡ Err fault
 unfolding step finish
 run_fault [] p from run front fault e = rw e refl

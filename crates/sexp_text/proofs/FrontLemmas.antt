@@ -16,7 +16,7 @@ use Rattle.sexp_text.specs.declared.reader.Progress.{Progress}
 use Rattle.sexp_text.specs.declared.reader.Progress.TheVariants as progress
 use Rattle.sexp_text.specs.Items.{Item, Open, Close, node_items, row_items, items_of, items_of_all}
 use Rattle.sexp_text.specs.Reading.{Inside, opened, closed, added}
-use Rattle.sexp_text.specs.Fronts.{open_items, all_open_items, front_of}
+use Rattle.sexp_text.specs.words.Fronts.{open_items, all_open_items, front_of}
 
 pub row_items-listed : {n : Count} (row : Row_of-Sexp n) → row_items row ≡ items_of_all (items-the_row-Sexp n row)
 unfolding items_of
@@ -24,11 +24,11 @@ row_items-listed end_of-Sexp = refl
 row_items-listed (more_of-Sexp at node rest) = ap (λ xs. node_items at node ++ xs) (row_items-listed rest)
 
 -- the items of a list
-pub items_of-List : (at : ℕ) (parts : List Sexp) →
-    items_of (record { at = at; node = node.List parts }) ≡ Open at ∷ (items_of_all parts ++ Close ∷ [])
+pub items_of-List : (at close : ℕ) (parts : List Sexp) →
+    items_of (record { at = at; node = node.List parts close }) ≡ Open at ∷ (items_of_all parts ++ Close close ∷ [])
 unfolding items_of
-items_of-List at parts =
-    ap (λ xs. Open at ∷ (xs ++ Close ∷ [])) (row_items-listed (hidden-the_row-Sexp-0 parts) ∙ ap items_of_all (items_hidden-the_row-Sexp-0 parts))
+items_of-List at close parts =
+    ap (λ xs. Open at ∷ (xs ++ Close close ∷ [])) (row_items-listed (hidden-the_row-Sexp-0 parts) ∙ ap items_of_all (items_hidden-the_row-Sexp-0 parts))
 
 pub items_of_all-push : (xs : List Sexp) (x : Sexp) → items_of_all (xs ++ x ∷ []) ≡ items_of_all xs ++ items_of x
 items_of_all-push xs x = flat_map-append items_of xs (x ∷ []) ∙ ap (λ ys. items_of_all xs ++ ys) (append-nil (items_of x))
@@ -74,20 +74,20 @@ open-after at p whole e = rw e refl
 
 pub close-last : (at : ℕ) (p : Progress) (outer : List OpenList) (inner : OpenList) →
     p ≡ progress.Inside outer inner → outer ≡ [] →
-    closed at (front_of p) ≡ Ok (front_of (progress.After (record { at = inner.at; node = node.List inner.parts })))
+    closed at (front_of p) ≡ Ok (front_of (progress.After (record { at = inner.at; node = node.List inner.parts at })))
 unfolding closed front_of
-close-last at p outer inner e eo = rw (e, eo, items_of-List inner.at inner.parts) refl
+close-last at p outer inner e eo = rw (e, eo, items_of-List inner.at at inner.parts) refl
 
 pub close-inside : (at : ℕ) (p : Progress) (outer new : List OpenList) (inner around : OpenList) (parts : List Sexp) →
     p ≡ progress.Inside outer inner → outer ≡ new ++ around ∷ [] →
-    parts ≡ around.parts ++ record { at = inner.at; node = node.List inner.parts } ∷ [] →
+    parts ≡ around.parts ++ record { at = inner.at; node = node.List inner.parts at } ∷ [] →
     closed at (front_of p) ≡ Ok (front_of (progress.Inside new (record { at = around.at; parts = parts })))
 unfolding closed front_of
 close-inside at p outer new inner around parts e eo ep =
-    rw (e, eo, ep, length-push new around, all_open_items-push new around, open_items-push around (record { at = inner.at; node = node.List inner.parts }), items_of-List inner.at inner.parts)
+    rw (e, eo, ep, length-push new around, all_open_items-push new around, open_items-push around (record { at = inner.at; node = node.List inner.parts at }), items_of-List inner.at at inner.parts)
     (ap (λ xs. Ok (Inside xs (length new))) (
-    append_assoc (all_open_items new ++ open_items around) (open_items inner) (Close ∷ []) ∙
-    append_assoc (all_open_items new) (open_items around) (open_items inner ++ Close ∷ [])
+    append_assoc (all_open_items new ++ open_items around) (open_items inner) (Close at ∷ []) ∙
+    append_assoc (all_open_items new) (open_items around) (open_items inner ++ Close at ∷ [])
     ))
 
 pub close-before : (at : ℕ) (p : Progress) → p ≡ progress.Before → closed at (front_of p) ≡ Err (Refused at word.Close)

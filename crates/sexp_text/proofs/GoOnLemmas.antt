@@ -23,8 +23,8 @@ use Rattle.sexp_text.specs.Bytes.{is_white, is_letter, is_name_byte, is_sign, is
 use Rattle.sexp_text.specs.Items.{Item, Open, Number, Name, items_of}
 use Rattle.sexp_text.specs.Reading.{◌>>=◌, refused, begins_number, number_of, word_end, ok_or_fault, run_items, string_items, Front, Before, Inside, After, opened, closed, begun, added, with_mode, with_items, between, in_string, begins_escape, first_digit, second_digit, step, finish, read_from, read}
 use Rattle.sexp_text.specs.Spelling.{EndsRun, IsWord}
-use Rattle.sexp_text.specs.Faults.{IsNoEnd, place_of, CanGoOn, IsCut}
-use Rattle.sexp_text.specs.Fronts.{front_of}
+use Rattle.sexp_text.specs.Faults.{IsNoEnd, place_of, IsText, CanGoOn, IsCut}
+use Rattle.sexp_text.specs.words.Fronts.{front_of}
 use Rattle.sexp_text.proofs.ByteLemmas.{word_end-le}
 use Rattle.sexp_text.proofs.FaultLemmas.{end_fault}
 use Rattle.sexp_text.proofs.FrontLemmas.{open-before, open-inside, open-after, close-last, close-inside, close-before, close-after, add-inside}
@@ -34,11 +34,11 @@ use Rattle.sexp_text.proofs.ReadLemmas.{AreRun, go_on, go_on-mode, step_open, st
 use Rattle.sexp_text.proofs.SoundLemmas.{begun_next, with_mode_next, string_item, spelled-read}
 
 -- what is reached after some bytes
-abbrev after : ℕ → List ℕ → Front → Mode → Result (Front × Mode) TextFault
+abbrev pub after : ℕ → List ℕ → Front → Mode → Result (Front × Mode) TextFault
 after p [] front mode = Ok (front, mode)
 after p (b ∷ bs) front mode = step p b front mode >>= λ next. after (p + 1) bs next.0 next.1
 
-abbrev Reach : List ℕ → Front → Mode → Type 0
+abbrev pub Reach : List ℕ → Front → Mode → Type 0
 Reach text front mode = after 0 text Before Between ≡ Ok (front, mode)
 
 read-after : (xs ys : List ℕ) (p : ℕ) (front : Front) (mode : Mode) →
@@ -54,7 +54,7 @@ read-after (b ∷ bs) ys p front mode = by_step (step p b front mode) (λ f m. r
         ap (λ q. after (p + 1) bs next.0 next.1 >>= λ s. read_from q ys s.0 s.1) (let e : p + 1 + length bs ≡ p + length (b ∷ bs) = omega arith in e)
     by_step (Err d) more = refl
 
-after-push : (xs : List ℕ) (b p : ℕ) (front : Front) (mode : Mode) →
+pub after-push : (xs : List ℕ) (b p : ℕ) (front : Front) (mode : Mode) →
     after p (xs ++ b ∷ []) front mode ≡ (after p xs front mode >>= λ s. step (p + length xs) b s.0 s.1)
 after-push [] b p front mode = same (step p b front mode) ∙ ap (λ q. step q b front mode) (let e : p ≡ p + 0 = omega arith in e)
   where
@@ -71,28 +71,28 @@ after-push (c ∷ cs) b p front mode = by_step (step p c front mode) (λ f m. af
         ap (λ q. after (p + 1) cs next.0 next.1 >>= λ s. step q b s.0 s.1) (let e : p + 1 + length cs ≡ p + length (c ∷ cs) = omega arith in e)
     by_step (Err d) more = refl
 
-reach_more : (text : List ℕ) (b : ℕ) (front : Front) (mode : Mode) (next : Front × Mode) → Reach text front mode → step (length text) b front mode ≡ Ok next →
+pub reach_more : (text : List ℕ) (b : ℕ) (front : Front) (mode : Mode) (next : Front × Mode) → Reach text front mode → step (length text) b front mode ≡ Ok next →
     Reach (text ++ b ∷ []) next.0 next.1
 reach_more text b front mode next r e =
     after-push text b 0 Before Between ∙ ap (λ s. s >>= λ t. step (0 + length text) b t.0 t.1) r ∙
     ap (λ q. step q b front mode) (let z : 0 + length text ≡ length text = omega arith in z) ∙ e
 
-reach_read : (text more : List ℕ) (front : Front) (mode : Mode) → Reach text front mode → read (text ++ more) ≡ read_from (length text) more front mode
+pub reach_read : (text more : List ℕ) (front : Front) (mode : Mode) → Reach text front mode → read (text ++ more) ≡ read_from (length text) more front mode
 unfolding read
 reach_read text more front mode r =
     read-after text more 0 Before Between ∙ ap (λ s. s >>= λ t. read_from (0 + length text) more t.0 t.1) r ∙
     place _ _ more front mode (omega arith)
 
 -- what was read is the progress of a reader
-abbrev Real : Front → Type 0
+abbrev pub Real : Front → Type 0
 Real front = (q : Progress) × (front_of q ≡ front)
 
 -- the parentheses that close what is open
-abbrev closes : ℕ → List ℕ
+abbrev pub closes : ℕ → List ℕ
 closes zero = 41 ∷ []
 closes (suc k) = 41 ∷ closes k
 
-abbrev closers : Front → List ℕ
+abbrev pub closers : Front → List ℕ
 closers Before = 40 ∷ 41 ∷ []
 closers (Inside items k) = closes k
 closers (After items) = []
@@ -121,7 +121,7 @@ done p whole = refl
 close_all : (k : ℕ) (outer : List OpenList) (inner : OpenList) → length outer ≡ k → (p : ℕ) →
     (whole : Sexp) × (read_from p (closes k) (front_of (progress.Inside outer inner)) Between ≡ Ok (items_of whole))
 close_all zero outer inner e p =
-    let whole : Sexp = record { at = inner.at; node = node.List inner.parts } in
+    let whole : Sexp = record { at = inner.at; node = node.List inner.parts p } in
     (whole, close_read p [] (front_of (progress.Inside outer inner)) (front_of (progress.After whole)) (close-last p (progress.Inside outer inner) outer inner refl (no_lists outer e)) ∙ done (p + 1) whole)
   where
     no_lists : (xs : List OpenList) → length xs ≡ 0 → xs ≡ []
@@ -129,7 +129,7 @@ close_all zero outer inner e p =
     no_lists (x ∷ xs) e = absurd (omega arith)
 close_all (suc k) outer inner e p =
     let l = last_of k outer e in
-    let whole : Sexp = record { at = inner.at; node = node.List inner.parts } in
+    let whole : Sexp = record { at = inner.at; node = node.List inner.parts p } in
     let around : OpenList = record { at = l.1.at; parts = l.1.parts ++ whole ∷ [] } in
     let more = close_all k l.0 around l.3 (p + 1) in (
       more.0,
@@ -141,7 +141,7 @@ front_inside : (outer : List OpenList) (inner : OpenList) → closers (front_of 
 unfolding front_of
 front_inside outer inner = refl
 
-front_before : front_of progress.Before ≡ Before
+pub front_before : front_of progress.Before ≡ Before
 unfolding front_of
 front_before = refl
 
@@ -150,7 +150,7 @@ unfolding front_of
 front_after whole = refl
 
 -- what is open can be closed
-close_real : (q : Progress) (p : ℕ) → (whole : Sexp) × (read_from p (closers (front_of q)) (front_of q) Between ≡ Ok (items_of whole))
+pub close_real : (q : Progress) (p : ℕ) → (whole : Sexp) × (read_from p (closers (front_of q)) (front_of q) Between ≡ Ok (items_of whole))
 close_real progress.Before p =
     let inner : OpenList = record { at = p; parts = [] } in
     let more = close_all 0 [] inner refl (p + 1) in (
@@ -174,14 +174,14 @@ closers_end (After items) = tt
 from_read : (text more : List ℕ) (s : Sexp) → read (text ++ more) ≡ Ok (items_of s) → CanGoOn text
 from_read text more s e = (more, s, spelled-read (text ++ more) s e)
 
-between_goes : (text : List ℕ) (front : Front) → Reach text front Between → Real front → CanGoOn text
+pub between_goes : (text : List ℕ) (front : Front) → Reach text front Between → Real front → CanGoOn text
 between_goes text front r real =
     let all = close_real real.0 (length text) in
     from_read text (closers front) all.0
     (reach_read text (closers front) front Between r ∙
     subst (λ f. read_from (length text) (closers f) f Between ≡ Ok (items_of all.0)) real.1 all.1)
 
-abbrev IsInside : Front → Type 0
+abbrev pub IsInside : Front → Type 0
 IsInside front = (items : List Item) × (k : ℕ) × (front ≡ Inside items k)
 
 before_same : (items : List Item) → front_of progress.Before ≡ added items (front_of progress.Before)
@@ -193,7 +193,7 @@ unfolding front_of added
 after_same items whole = refl
 
 -- a part that was read is added to real progress
-real_added : (front : Front) (part : Sexp) → Real front → Real (added (items_of part) front)
+pub real_added : (front : Front) (part : Sexp) → Real front → Real (added (items_of part) front)
 real_added front part real = subst (λ f. Real (added (items_of part) f)) real.1 (by_progress real.0)
   where
     by_progress : (q : Progress) → Real (added (items_of part) (front_of q))
@@ -204,14 +204,14 @@ real_added front part real = subst (λ f. Real (added (items_of part) f)) real.1
     )
     by_progress (progress.After whole) = (progress.After whole, after_same (items_of part) whole)
 
-added_inside : (xs items : List Item) (k : ℕ) → added xs (Inside items k) ≡ Inside (items ++ xs) k
+pub added_inside : (xs items : List Item) (k : ℕ) → added xs (Inside items k) ≡ Inside (items ++ xs) k
 unfolding added
 added_inside xs items k = refl
 
 -- runs
 
 -- what a run or a front of it is read as
-run_part : (from : ℕ) (run : List ℕ) (xs : List Item) → 0 < length run → run_items from run ≡ Ok xs → (part : Sexp) × (xs ≡ items_of part)
+pub run_part : (from : ℕ) (run : List ℕ) (xs : List Item) → 0 < length run → run_items from run ≡ Ok xs → (part : Sexp) × (xs ≡ items_of part)
 unfolding items_of
 run_part from run xs some e =
     ⊎_elim
@@ -219,10 +219,11 @@ run_part from run xs some e =
     (λ w. (record { at = from; node = node.Word run }, w.0))
     (run_writes from run xs some e)
 
-run_goes : (text run : List ℕ) (front : Front) (xs : List Item) → Reach text front Between → Real front → IsInside front → AreRun run → 0 < length run →
-    run_items (length text) run ≡ Ok xs → CanGoOn (text ++ run)
-run_goes text [] front xs r real inside bytes some e = absurd (omega arith)
-run_goes text (b ∷ bs) front xs r real inside bytes some e =
+-- a run in a list, which is closed after it
+pub run_text : (text run : List ℕ) (front : Front) (xs : List Item) → Reach text front Between → Real front → (inside : IsInside front) → AreRun run → 0 < length run →
+    run_items (length text) run ≡ Ok xs → IsText ((text ++ run) ++ closes inside.1)
+run_text text [] front xs r real inside bytes some e = absurd (omega arith)
+run_text text (b ∷ bs) front xs r real inside bytes some e =
     let part = run_part (length text) (b ∷ bs) xs some e in
     let items = inside.0 in
     let k = inside.1 in
@@ -237,7 +238,12 @@ run_goes text (b ∷ bs) front xs r real inside bytes some e =
     reach_read text ((b ∷ bs) ++ closers grown) front Between r ∙
     ap (λ f. read_from (length text) ((b ∷ bs) ++ closers grown) f Between) inside.2 ∙
     run_read b bs (closers grown) (length text) k items xs bytes (closers_end grown) e ∙ ends in
-    from_read (text ++ b ∷ bs) (closers grown) all.0 whole
+    (all.0, spelled-read ((text ++ b ∷ bs) ++ closers grown) all.0 whole)
+
+run_goes : (text run : List ℕ) (front : Front) (xs : List Item) → Reach text front Between → Real front → IsInside front → AreRun run → 0 < length run →
+    run_items (length text) run ≡ Ok xs → CanGoOn (text ++ run)
+run_goes text run front xs r real inside bytes some e =
+    let t = run_text text run front xs r real inside bytes some e in (closes inside.1, t.0, t.1)
 
 -- the longest front of a run that is a word
 
@@ -301,7 +307,7 @@ run_place from run fault e = by_begin (begins_number run) e
     by_begin true e = inl (by_number (number_of run) e)
     by_begin false e = inr (by_end (eqb (word_end run) (length run)) e)
 
-run_front : (bs : List ℕ) (n : ℕ) → AreRun bs → AreRun (take n bs)
+pub run_front : (bs : List ℕ) (n : ℕ) → AreRun bs → AreRun (take n bs)
 run_front [] zero h = tt
 run_front [] (suc n) h = tt
 run_front (b ∷ bs) zero h = tt
@@ -328,7 +334,7 @@ run_fault_goes text run more front fault r real inside bytes e =
 -- what is known while a text is read
 
 -- some escape has this first digit
-abbrev Escapes : ℕ → Type 0
+abbrev pub Escapes : ℕ → Type 0
 Escapes high = (low : ℕ) × (low < 16) × (is_plain (16 * high + low) ≡ false)
 
 last_digit : ℕ → ℕ
@@ -346,13 +352,13 @@ escapes : (b : ℕ) → begins_escape b ≡ true → Escapes (hex_value b)
 escapes b h = (last_digit (hex_value b), last_digit_small (hex_value b), last_digit_escapes b h)
 
 -- a string begins at this place, and the text before it can go on
-abbrev InString : List ℕ → ℕ → Type 0
+abbrev pub InString : List ℕ → ℕ → Type 0
 InString text from = (before rest : List ℕ) × (text ≡ before ++ rest) × (length before ≡ from) × CanGoOn before
 
-abbrev InRun : List ℕ → ℕ → List ℕ → Front → Type 0
+abbrev pub InRun : List ℕ → ℕ → List ℕ → Front → Type 0
 InRun text from run front = (before : List ℕ) × (text ≡ before ++ run) × (length before ≡ from) × Reach before front Between × AreRun run × IsInside front
 
-abbrev Known : List ℕ → Front → Mode → Type 0
+abbrev pub Known : List ℕ → Front → Mode → Type 0
 Known text front Between = Unit {0}
 Known text front Comment = Unit {0}
 Known text front (Run from run) = InRun text from run front × (0 < length run)
@@ -393,17 +399,17 @@ real_closed p front f real e = by_progress real.0 (subst (λ g. closed p g ≡ O
     by_progress : (q : Progress) → closed p (front_of q) ≡ Ok f → Real f
     by_progress progress.Before e = let bad = close-before p progress.Before refl in cc
     by_progress (progress.Inside [] inner) e =
-        let new : Progress = progress.After (record { at = inner.at; node = node.List inner.parts }) in
+        let new : Progress = progress.After (record { at = inner.at; node = node.List inner.parts p }) in
         real_is (front_of new) f (new, refl) (sym (close-last p (progress.Inside [] inner) [] inner refl refl) ∙ e)
     by_progress (progress.Inside (x ∷ xs) inner) e =
         let l = last_of (length xs) (x ∷ xs) refl in
-        let whole : Sexp = record { at = inner.at; node = node.List inner.parts } in
+        let whole : Sexp = record { at = inner.at; node = node.List inner.parts p } in
         let new : Progress = progress.Inside l.0 (record { at = l.1.at; parts = l.1.parts ++ whole ∷ [] }) in
         real_is (front_of new) f (new, refl)
         (sym (close-inside p (progress.Inside (x ∷ xs) inner) (x ∷ xs) l.0 inner l.1 (l.1.parts ++ whole ∷ []) refl l.2 refl) ∙ e)
     by_progress (progress.After whole) e = let bad = close-after p (progress.After whole) whole refl in cc
 
-abbrev Holds : List ℕ → Front × Mode → Type 0
+abbrev pub Holds : List ℕ → Front × Mode → Type 0
 Holds text next = Real next.0 × Known text next.0 next.1
 
 between_known : (text : List ℕ) (b : ℕ) (front : Front) (next : Front × Mode) → CanGoOn text → Real front → (is_run b ≡ true → Reach text front Between) →
@@ -454,7 +460,7 @@ between_known text b front next goes real reach e = by_white (is_white b) e
     by_white true e = let i : (front, Between) ≡ next = cc in subst (Holds (text ++ b ∷ [])) i (real, tt)
     by_white false e = by_semicolon (eqb b 59) e
 
-step_between : (p b : ℕ) (front : Front) → step p b front Between ≡ between p b front
+pub step_between : (p b : ℕ) (front : Front) → step p b front Between ≡ between p b front
 unfolding step
 step_between p b front = refl
 
@@ -552,7 +558,7 @@ digit_known text b from bytes high front next real k e = by_hex (is_hex b) e
     by_hex true e = by_plain (is_plain (16 * high + hex_value b)) e
     by_hex false e = cc
 
-step_known : (text : List ℕ) (b : ℕ) (front : Front) (mode : Mode) (next : Front × Mode) → Reach text front mode → Holds text (front, mode) →
+pub step_known : (text : List ℕ) (b : ℕ) (front : Front) (mode : Mode) (next : Front × Mode) → Reach text front mode → Holds text (front, mode) →
     step (length text) b front mode ≡ Ok next → Holds (text ++ b ∷ []) next
 step_known text b front Between next r h e =
     between_known text b front next (between_goes text front r h.0) h.0 (λ _. r) (sym (step_between (length text) b front) ∙ e)
@@ -564,19 +570,19 @@ step_known text b front (Digit from bytes high) next r h e = digit_known text b 
 
 -- the faults that a step may have
 
-abbrev Errs : {A : Type 0} → (TextFault → Type 0) → Result A TextFault → Type 0
+abbrev pub Errs : {A : Type 0} → (TextFault → Type 0) → Result A TextFault → Type 0
 Errs P (Ok x) = Unit {0}
 Errs P (Err e) = P e
 
-cond_errs : {A : Type 0} (P : TextFault → Type 0) (v : Bool) (r s : Result A TextFault) → Errs P r → Errs P s → Errs P (cond v r s)
+pub cond_errs : {A : Type 0} (P : TextFault → Type 0) (v : Bool) (r s : Result A TextFault) → Errs P r → Errs P s → Errs P (cond v r s)
 cond_errs P true r s h k = h
 cond_errs P false r s h k = k
 
-bind_errs : {A B : Type 0} (P : TextFault → Type 0) (r : Result A TextFault) (f : A → Result B TextFault) → Errs P r → ((x : A) → Errs P (f x)) → Errs P (r >>= f)
+pub bind_errs : {A B : Type 0} (P : TextFault → Type 0) (r : Result A TextFault) (f : A → Result B TextFault) → Errs P r → ((x : A) → Errs P (f x)) → Errs P (r >>= f)
 bind_errs P (Ok x) f h k = k x
 bind_errs P (Err e) f h k = h
 
-errs_at : {A : Type 0} (P : TextFault → Type 0) (r : Result A TextFault) (fault : TextFault) → Errs P r → r ≡ Err fault → P fault
+pub errs_at : {A : Type 0} (P : TextFault → Type 0) (r : Result A TextFault) (fault : TextFault) → Errs P r → r ≡ Err fault → P fault
 errs_at P (Ok x) fault h e = cc
 errs_at P (Err d) fault h e = let same : d ≡ fault = cc in subst P same h
 
@@ -667,7 +673,7 @@ in_run_goes text rest from run front fault real k e =
     subst (λ bs. CanGoOn (take (place_of fault) bs)) (sym (ap (λ xs. xs ++ rest) k.1 ∙ append_assoc k.0 run rest))
     (run_fault_goes k.0 run rest front fault k.3 real k.5 k.4 (ap (λ q. run_items q run) k.2 ∙ e))
 
-comment_fault : (p b : ℕ) (front : Front) (fault : TextFault) → step p b front Comment ≡ Err fault → ⊥
+pub comment_fault : (p b : ℕ) (front : Front) (fault : TextFault) → step p b front Comment ≡ Err fault → ⊥
 unfolding step
 comment_fault p b front fault e = by_line_feed (eqb b 10) e
   where
@@ -694,15 +700,15 @@ run_step_goes text rest b from run front fault real known e = by_run (is_run b) 
     by_run true e = cc
     by_run false e = by_items (run_items from run) refl e
 
-step_string : (p b from : ℕ) (bytes : List ℕ) (front : Front) → step p b front (Quoted from bytes) ≡ in_string b from bytes front
+pub step_string : (p b from : ℕ) (bytes : List ℕ) (front : Front) → step p b front (Quoted from bytes) ≡ in_string b from bytes front
 unfolding step
 step_string p b from bytes front = refl
 
-step_escape : (p b from : ℕ) (bytes : List ℕ) (front : Front) → step p b front (Escape from bytes) ≡ first_digit b from bytes front
+pub step_escape : (p b from : ℕ) (bytes : List ℕ) (front : Front) → step p b front (Escape from bytes) ≡ first_digit b from bytes front
 unfolding step
 step_escape p b from bytes front = refl
 
-step_digit : (p b from : ℕ) (bytes : List ℕ) (high : ℕ) (front : Front) → step p b front (Digit from bytes high) ≡ second_digit b from bytes high front
+pub step_digit : (p b from : ℕ) (bytes : List ℕ) (high : ℕ) (front : Front) → step p b front (Digit from bytes high) ≡ second_digit b from bytes high front
 unfolding step
 step_digit p b from bytes high front = refl
 

@@ -12,3 +12,4 @@ pub mod SameLemmas
 pub mod SoundLemmas
 pub mod TextLaws
 pub mod Utf8Lemmas
+pub mod WordLemmas

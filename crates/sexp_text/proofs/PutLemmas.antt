@@ -21,7 +21,7 @@ put_part x (After items) = refused 0 word.Rest
 -- one more item
 abbrev pub put : Item → Front → Result Front TextFault
 put (Open at) front = opened at front
-put Close front = closed 0 front
+put (Close at) front = closed at front
 put (Number at z) front = put_part (Number at z) front
 put (Name at w) front = put_part (Name at w) front
 put (Quote at s) front = put_part (Quote at s) front
@@ -39,12 +39,12 @@ open_more : (at k : ℕ) (items : List Item) → k + 1 < 500 → opened at (Insi
 unfolding opened
 open_more at k items h = let e : k + 1 ≡ suc k = omega arith in rw (lt-ltb (k + 1) 500 h, e) refl
 
-close_one : (k : ℕ) (items : List Item) → closed 0 (Inside items (suc k)) ≡ Ok (Inside (items ++ Close ∷ []) k)
+close_one : (at k : ℕ) (items : List Item) → closed at (Inside items (suc k)) ≡ Ok (Inside (items ++ Close at ∷ []) k)
 unfolding closed
-close_one k items = refl
+close_one at k items = refl
 
-regroup : (items row : List Item) (at : ℕ) → ((items ++ Open at ∷ []) ++ row) ++ Close ∷ [] ≡ items ++ Open at ∷ (row ++ Close ∷ [])
-regroup items row at = append_assoc (items ++ Open at ∷ []) row (Close ∷ []) ∙ append_assoc items (Open at ∷ []) (row ++ Close ∷ [])
+regroup : (items row : List Item) (at close : ℕ) → ((items ++ Open at ∷ []) ++ row) ++ Close close ∷ [] ≡ items ++ Open at ∷ (row ++ Close close ∷ [])
+regroup items row at close = append_assoc (items ++ Open at ∷ []) row (Close close ∷ []) ∙ append_assoc items (Open at ∷ []) (row ++ Close close ∷ [])
 
 -- what a part inside a list does, if it is not too deep
 mutual
@@ -53,14 +53,14 @@ mutual
   node_puts at (Num z) items k h = refl
   node_puts at (Word w) items k h = refl
   node_puts at (Str s) items k h = refl
-  node_puts at (List' shape parts) items k h =
+  node_puts at (List' shape parts close) items k h =
       let room : k + 1 < 500 = omega arith in
       let inner : depth_of_row parts + suc k < 500 = omega arith in
-      ap (λ r. r >>= puts (row_items parts ++ Close ∷ [])) (open_more at k items room) ∙
-      (puts-append (row_items parts) (Close ∷ []) (Inside (items ++ Open at ∷ []) (suc k)) ∙
-      ap (λ r. r >>= puts (Close ∷ [])) (row_puts parts (items ++ Open at ∷ []) (suc k) inner) ∙
-      ap (λ r. r >>= puts []) (close_one k ((items ++ Open at ∷ []) ++ row_items parts)) ∙
-      ap (λ xs. Ok (Inside xs k)) (regroup items (row_items parts) at))
+      ap (λ r. r >>= puts (row_items parts ++ Close close ∷ [])) (open_more at k items room) ∙
+      (puts-append (row_items parts) (Close close ∷ []) (Inside (items ++ Open at ∷ []) (suc k)) ∙
+      ap (λ r. r >>= puts (Close close ∷ [])) (row_puts parts (items ++ Open at ∷ []) (suc k) inner) ∙
+      ap (λ r. r >>= puts []) (close_one close k ((items ++ Open at ∷ []) ++ row_items parts)) ∙
+      ap (λ xs. Ok (Inside xs k)) (regroup items (row_items parts) at close))
 
   pub row_puts : {n : _} (row : Row_of-Sexp n) (items : List Item) (k : ℕ) → depth_of_row row + k < 500 →
       puts (row_items row) (Inside items k) ≡ Ok (Inside (items ++ row_items row) k)
@@ -97,19 +97,19 @@ mutual
   node_fits at (Num z) rest items k g h e = (omega arith, e)
   node_fits at (Word w) rest items k g h e = (omega arith, e)
   node_fits at (Str s) rest items k g h e = (omega arith, e)
-  node_fits at (List' shape parts) rest items k g h e =
-      let first = bound (opened at (Inside items k)) (puts ((row_items parts ++ Close ∷ []) ++ rest)) g e in
+  node_fits at (List' shape parts close) rest items k g h e =
+      let first = bound (opened at (Inside items k)) (puts ((row_items parts ++ Close close ∷ []) ++ rest)) g e in
       let room = opened_room at k items first.0 first.1 in
       let inner : suc k < 500 = omega (arith, room.0) in
-      let e1 : puts ((row_items parts ++ Close ∷ []) ++ rest) (Inside (items ++ Open at ∷ []) (suc k)) ≡ Ok g =
-      subst (λ f. puts ((row_items parts ++ Close ∷ []) ++ rest) f ≡ Ok g) room.1 first.2 in
-      let e2 : puts (row_items parts ++ Close ∷ rest) (Inside (items ++ Open at ∷ []) (suc k)) ≡ Ok g =
-      subst (λ xs. puts xs (Inside (items ++ Open at ∷ []) (suc k)) ≡ Ok g) (append_assoc (row_items parts) (Close ∷ []) rest) e1 in
-      let row = row_fits parts (Close ∷ rest) (items ++ Open at ∷ []) (suc k) g inner e2 in
-      let e3 : (closed 0 (Inside ((items ++ Open at ∷ []) ++ row_items parts) (suc k)) >>= puts rest) ≡ Ok g = row.1 in
-      let e4 : puts rest (Inside (((items ++ Open at ∷ []) ++ row_items parts) ++ Close ∷ []) k) ≡ Ok g =
-      subst (λ r. (r >>= puts rest) ≡ Ok g) (close_one k ((items ++ Open at ∷ []) ++ row_items parts)) e3 in
-      (omega (arith, row.0), subst (λ xs. puts rest (Inside xs k) ≡ Ok g) (regroup items (row_items parts) at) e4)
+      let e1 : puts ((row_items parts ++ Close close ∷ []) ++ rest) (Inside (items ++ Open at ∷ []) (suc k)) ≡ Ok g =
+      subst (λ f. puts ((row_items parts ++ Close close ∷ []) ++ rest) f ≡ Ok g) room.1 first.2 in
+      let e2 : puts (row_items parts ++ Close close ∷ rest) (Inside (items ++ Open at ∷ []) (suc k)) ≡ Ok g =
+      subst (λ xs. puts xs (Inside (items ++ Open at ∷ []) (suc k)) ≡ Ok g) (append_assoc (row_items parts) (Close close ∷ []) rest) e1 in
+      let row = row_fits parts (Close close ∷ rest) (items ++ Open at ∷ []) (suc k) g inner e2 in
+      let e3 : (closed close (Inside ((items ++ Open at ∷ []) ++ row_items parts) (suc k)) >>= puts rest) ≡ Ok g = row.1 in
+      let e4 : puts rest (Inside (((items ++ Open at ∷ []) ++ row_items parts) ++ Close close ∷ []) k) ≡ Ok g =
+      subst (λ r. (r >>= puts rest) ≡ Ok g) (close_one close k ((items ++ Open at ∷ []) ++ row_items parts)) e3 in
+      (omega (arith, row.0), subst (λ xs. puts rest (Inside xs k) ≡ Ok g) (regroup items (row_items parts) at close) e4)
 
   pub row_fits : {n : _} (row : Row_of-Sexp n) (rest items : List Item) (k : ℕ) (g : Front) → k < 500 →
       puts (row_items row ++ rest) (Inside items k) ≡ Ok g →
@@ -123,9 +123,9 @@ mutual
       let more = row_fits others rest (items ++ node_items at node) k g h first.1 in
       (omega (arith, first.0, more.0), subst (λ xs. puts rest (Inside xs k) ≡ Ok g) (append_assoc items (node_items at node) (row_items others)) more.1)
 
-closed_after : (items : List Item) → closed 0 (Inside items 0) ≡ Ok (After (items ++ Close ∷ []))
+closed_after : (close : ℕ) (items : List Item) → closed close (Inside items 0) ≡ Ok (After (items ++ Close close ∷ []))
 unfolding closed
-closed_after items = refl
+closed_after close items = refl
 
 opened_first : (at : ℕ) → opened at Before ≡ Ok (Inside (Open at ∷ []) 0)
 unfolding opened
@@ -140,12 +140,12 @@ whole_puts s l h = by_node s.at s.node l h
     by_node at (Num z) l h = absurd l
     by_node at (Word w) l h = absurd l
     by_node at (Str x) l h = absurd l
-    by_node at (List' shape parts) l h =
+    by_node at (List' shape parts close) l h =
         let inner : depth_of_row parts + 0 < 500 = omega arith in
-        ap (λ r. r >>= puts (row_items parts ++ Close ∷ [])) (opened_first at) ∙
-        puts-append (row_items parts) (Close ∷ []) (Inside (Open at ∷ []) 0) ∙
-        ap (λ r. r >>= puts (Close ∷ [])) (row_puts parts (Open at ∷ []) 0 inner) ∙
-        ap (λ r. r >>= puts []) (closed_after ((Open at ∷ []) ++ row_items parts))
+        ap (λ r. r >>= puts (row_items parts ++ Close close ∷ [])) (opened_first at) ∙
+        puts-append (row_items parts) (Close close ∷ []) (Inside (Open at ∷ []) 0) ∙
+        ap (λ r. r >>= puts (Close close ∷ [])) (row_puts parts (Open at ∷ []) 0 inner) ∙
+        ap (λ r. r >>= puts []) (closed_after close ((Open at ∷ []) ++ row_items parts))
 
 -- a whole value is a list that is not too deep
 pub whole_fits : (s : Sexp) (g : Front) → puts (items_of s) Before ≡ Ok g → IsList s.node × (depth_of_node s.node ≤ 500)
@@ -156,9 +156,9 @@ whole_fits s g e = by_node s.at s.node e
     by_node at (Num z) e = cc
     by_node at (Word w) e = cc
     by_node at (Str x) e = cc
-    by_node at (List' shape parts) e =
-        let e1 : (opened at Before >>= puts (row_items parts ++ Close ∷ [])) ≡ Ok g = e in
-        let e2 : puts (row_items parts ++ Close ∷ []) (Inside (Open at ∷ []) 0) ≡ Ok g =
-        subst (λ r. (r >>= puts (row_items parts ++ Close ∷ [])) ≡ Ok g) (opened_first at) e1 in
-        let row = row_fits parts (Close ∷ []) (Open at ∷ []) 0 g (omega arith) e2 in
+    by_node at (List' shape parts close) e =
+        let e1 : (opened at Before >>= puts (row_items parts ++ Close close ∷ [])) ≡ Ok g = e in
+        let e2 : puts (row_items parts ++ Close close ∷ []) (Inside (Open at ∷ []) 0) ≡ Ok g =
+        subst (λ r. (r >>= puts (row_items parts ++ Close close ∷ [])) ≡ Ok g) (opened_first at) e1 in
+        let row = row_fits parts (Close close ∷ []) (Open at ∷ []) 0 g (omega arith) e2 in
         (tt, omega (arith, row.0))

@@ -108,7 +108,7 @@ step_more_run : (p b from : ℕ) (run : List ℕ) (front : Front) → is_run b �
 unfolding step
 step_more_run p b from run front h = rw h refl
 
-run_more : (more rest : List ℕ) (p from : ℕ) (run : List ℕ) (front : Front) → AreRun more →
+pub run_more : (more rest : List ℕ) (p from : ℕ) (run : List ℕ) (front : Front) → AreRun more →
     read_from p (more ++ rest) front (Run from run) ≡ read_from (p + length more) rest front (Run from (run ++ more))
 run_more [] rest p from run front h =
     place _ _ rest front (Run from run) (omega arith) ∙ ap (λ r. read_from (p + 0) rest front (Run from r)) (sym (append-nil run))
@@ -125,7 +125,7 @@ unfolding step finish added
 run_ends [] p from k run items xs h e = rw e refl
 run_ends (b ∷ bs) p from k run items xs h e = rw (h, e) refl
 
-begun_inside : (p k : ℕ) (mode : Mode) (items : List Item) → begun p mode (Inside items k) ≡ Ok (Inside items k, mode)
+pub begun_inside : (p k : ℕ) (mode : Mode) (items : List Item) → begun p mode (Inside items k) ≡ Ok (Inside items k, mode)
 unfolding begun
 begun_inside p k mode items = refl
 
@@ -156,7 +156,7 @@ pub digit_of : (d : ℕ) → d < 16 → (is_hex (digit_char d) ≡ true) × (hex
 unfolding is_hex hex_value
 digit_of d h = (grind (arith, nat_tests), grind (arith, nat_tests))
 
-first_of_escape : (d l : ℕ) → d < 16 → l < 16 → is_plain (16 * d + l) ≡ false → begins_escape (digit_char d) ≡ true
+pub first_of_escape : (d l : ℕ) → d < 16 → l < 16 → is_plain (16 * d + l) ≡ false → begins_escape (digit_char d) ≡ true
 unfolding is_plain begins_escape
 first_of_escape d l h k n = grind (arith, nat_tests)
 

@@ -27,7 +27,7 @@ abbrev BeginsAt : ℕ → Item → Type 0
 BeginsAt from (Number at z) = at ≡ from
 BeginsAt from (Name at w) = at ≡ from
 BeginsAt from (Open at) = ⊥
-BeginsAt from Close = ⊥
+BeginsAt from (Close at) = ⊥
 BeginsAt from (Quote at s) = ⊥
 
 -- what is left of a text spells these items, where it begins in the middle of something
@@ -111,17 +111,10 @@ open_back : (n p : ℕ) (bs : List ℕ) (front f : Front) (all : List Item) → 
 open_back n p bs front f all l e g =
     (Open p ∷ g.0, ap (λ r. r >>= puts g.0) e ∙ g.1, ([], 40 ∷ [], bs, refl, nothing, refl, l, tt, g.2))
 
-closed_nowhere : (p : ℕ) (front g : Front) → closed p front ≡ Ok g → closed 0 front ≡ Ok g
-unfolding closed
-closed_nowhere p Before g e = cc
-closed_nowhere p (Inside items zero) g e = e
-closed_nowhere p (Inside items (suc k)) g e = e
-closed_nowhere p (After items) g e = cc
-
-close_back : (n p : ℕ) (bs : List ℕ) (front f : Front) (all : List Item) → closed p front ≡ Ok f →
+close_back : (n p : ℕ) (bs : List ℕ) (front f : Front) (all : List Item) → p + length (41 ∷ bs) ≡ n → closed p front ≡ Ok f →
     Goes n bs f Between all → Goes n (41 ∷ bs) front Between all
-close_back n p bs front f all e g =
-    (Close ∷ g.0, ap (λ r. r >>= puts g.0) (closed_nowhere p front f e) ∙ g.1, ([], 41 ∷ [], bs, refl, nothing, refl, tt, tt, g.2))
+close_back n p bs front f all l e g =
+    (Close p ∷ g.0, ap (λ r. r >>= puts g.0) e ∙ g.1, ([], 41 ∷ [], bs, refl, nothing, refl, l, tt, g.2))
 
 -- the first bytes of strings and runs
 
@@ -139,7 +132,7 @@ stands : (n p : ℕ) (x : Item) (tail : List ℕ) → BeginsAt p x → p + lengt
 stands n p (Number at z) tail e l = subst (λ q. q + length tail ≡ n) (sym e) l
 stands n p (Name at w) tail e l = subst (λ q. q + length tail ≡ n) (sym e) l
 stands n p (Open at) tail e l = absurd e
-stands n p Close tail e l = absurd e
+stands n p (Close at) tail e l = absurd e
 stands n p (Quote at s) tail e l = absurd e
 
 run_back : (n p b : ℕ) (bs : List ℕ) (front : Front) (all : List Item) → p + length (b ∷ bs) ≡ n →
@@ -191,7 +184,7 @@ between_back n p b bs front all next l e = by_white (is_white b) refl e
     by_close true t e =
         let i = with_mode_next Between (closed p front) next e in
         let same : 41 ≡ b = sym (eqb-true b 41 t) in
-        subst (Back n b bs front Between all) i.2 (tt, subst (λ c. Goes n bs i.0 Between all → Goes n (c ∷ bs) front Between all) same (close_back n p bs front i.0 all i.1))
+        subst (Back n b bs front Between all) i.2 (tt, subst (λ c. Goes n bs i.0 Between all → Goes n (c ∷ bs) front Between all) same (close_back n p bs front i.0 all l i.1))
     by_close false t e = by_quote (eqb b 34) refl e
 
     by_open : (v : Bool) → eqb b 40 ≡ v →
@@ -407,7 +400,7 @@ in_string_back n p b from bs bytes front all next h e = by_quote (eqb b 34) refl
 
 -- an escape
 
-char_of_digit : (b : ℕ) → is_hex b ≡ true → (digit_char (hex_value b) ≡ b) × (hex_value b < 16)
+pub char_of_digit : (b : ℕ) → is_hex b ≡ true → (digit_char (hex_value b) ≡ b) × (hex_value b < 16)
 unfolding is_hex hex_value
 char_of_digit b h = (grind (arith, nat_tests), grind (arith, nat_tests))
 
@@ -541,10 +534,10 @@ put_items (Open at) (Inside items k) g e = by_room (ltb (k + 1) 500) e
     by_room true e = let same : Inside (items ++ Open at ∷ []) (k + 1) ≡ g = cc in ap items_read (sym same)
     by_room false e = cc
 put_items (Open at) (After items) g e = cc
-put_items Close Before g e = cc
-put_items Close (Inside items zero) g e = let same : After (items ++ Close ∷ []) ≡ g = cc in ap items_read (sym same)
-put_items Close (Inside items (suc k)) g e = let same : Inside (items ++ Close ∷ []) k ≡ g = cc in ap items_read (sym same)
-put_items Close (After items) g e = cc
+put_items (Close at) Before g e = cc
+put_items (Close at) (Inside items zero) g e = let same : After (items ++ Close at ∷ []) ≡ g = cc in ap items_read (sym same)
+put_items (Close at) (Inside items (suc k)) g e = let same : Inside (items ++ Close at ∷ []) k ≡ g = cc in ap items_read (sym same)
+put_items (Close at) (After items) g e = cc
 put_items (Number at z) Before g e = cc
 put_items (Number at z) (Inside items k) g e = let same : Inside (items ++ Number at z ∷ []) k ≡ g = cc in ap items_read (sym same)
 put_items (Number at z) (After items) g e = cc

@@ -4,11 +4,11 @@ use Rattle.std.specs.List.{flat_map}
 use Rattle.sexp_text.specs.declared.sexp.Node.{Node, Num, Word, Str, List', Row_of-Sexp, end_of-Sexp, more_of-Sexp}
 use Rattle.sexp_text.specs.declared.sexp.Sexp.{Sexp}
 
--- what stands between white space and comments: a parenthesis, a number, a word or a string. A `)` ends what
--- its `(` began; each other item has the place of its first byte.
+-- what stands between white space and comments: a parenthesis, a number, a word or a string, each with the place of its
+-- first byte
 pub data Item : Type 0 where
   Open : ℕ → Item
-  Close : Item
+  Close : ℕ → Item
   Number : ℕ → ℤ → Item
   Name : ℕ → List ℕ → Item
   Quote : ℕ → List ℕ → Item
@@ -19,7 +19,7 @@ abbrev mutual
   node_items at (Num z) = Number at z ∷ []
   node_items at (Word w) = Name at w ∷ []
   node_items at (Str s) = Quote at s ∷ []
-  node_items at (List' shape parts) = Open at ∷ (row_items parts ++ Close ∷ [])
+  node_items at (List' shape parts close) = Open at ∷ (row_items parts ++ Close close ∷ [])
 
   -- the items of the parts of a list
   pub row_items : {n : _} → Row_of-Sexp n → List Item

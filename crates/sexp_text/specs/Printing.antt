@@ -11,7 +11,7 @@ abbrev mutual
   printed_node (Num z) = signed_decimal z
   printed_node (Word w) = w
   printed_node (Str s) = quoted s
-  printed_node (List' shape parts) = 40 ∷ (printed_row parts ++ 41 ∷ [])
+  printed_node (List' shape parts close) = 40 ∷ (printed_row parts ++ 41 ∷ [])
 
   -- the parts of a list, with one space between two of them
   pub printed_row : {n : _} → Row_of-Sexp n → List ℕ
@@ -45,7 +45,7 @@ abbrev mutual
   tree_of_node (Num z) = Number z
   tree_of_node (Word w) = Name w
   tree_of_node (Str s) = Quote s
-  tree_of_node (List' shape parts) = Branch (trees_of_row parts)
+  tree_of_node (List' shape parts close) = Branch (trees_of_row parts)
 
   pub trees_of_row : {n : _} → Row_of-Sexp n → Trees
   trees_of_row end_of-Sexp = Nil

@@ -94,8 +94,8 @@ opened at (After items) = refused at word.Rest
 -- the innermost open list ends
 unfoldable pub closed : ℕ → Front → Result Front TextFault
 closed at Before = refused at word.Close
-closed at (Inside items zero) = Ok (After (items ++ Close ∷ []))
-closed at (Inside items (suc around)) = Ok (Inside (items ++ Close ∷ []) around)
+closed at (Inside items zero) = Ok (After (items ++ Close at ∷ []))
+closed at (Inside items (suc around)) = Ok (Inside (items ++ Close at ∷ []) around)
 closed at (After items) = refused at word.Close
 
 -- a run or a string begins, which stands only in a list

@@ -57,7 +57,7 @@ quoted bytes = 34 ∷ (flat_map string_byte bytes ++ 34 ∷ [])
 -- the bytes are a spelling of the item
 abbrev pub Marks : Item → List ℕ → Type 0
 Marks (Open at) mark = mark ≡ 40 ∷ []
-Marks Close mark = mark ≡ 41 ∷ []
+Marks (Close at) mark = mark ≡ 41 ∷ []
 Marks (Number at z) mark = WritesNumber mark z
 Marks (Name at w) mark = (mark ≡ w) × IsWord w
 Marks (Quote at bytes) mark = (mark ≡ quoted bytes) × IsUtf8 bytes
@@ -65,7 +65,7 @@ Marks (Quote at bytes) mark = (mark ≡ quoted bytes) × IsUtf8 bytes
 -- the item's place is that of its first byte, in a text of n bytes that ends with the bytes from there on
 abbrev pub StandsAt : ℕ → Item → List ℕ → Type 0
 StandsAt n (Open at) from_here = at + length from_here ≡ n
-StandsAt n Close from_here = Unit {0}
+StandsAt n (Close at) from_here = at + length from_here ≡ n
 StandsAt n (Number at z) from_here = at + length from_here ≡ n
 StandsAt n (Name at w) from_here = at + length from_here ≡ n
 StandsAt n (Quote at bytes) from_here = at + length from_here ≡ n
@@ -80,7 +80,7 @@ abbrev pub StandsApart : Item → List ℕ → Type 0
 StandsApart (Number at z) rest = EndsRun rest
 StandsApart (Name at w) rest = EndsRun rest
 StandsApart (Open at) rest = Unit {0}
-StandsApart Close rest = Unit {0}
+StandsApart (Close at) rest = Unit {0}
 StandsApart (Quote at bytes) rest = Unit {0}
 
 -- the last bytes of a text of n bytes are the spellings of these items, with gaps before, between and after them
@@ -95,7 +95,7 @@ abbrev mutual
   depth_of_node (Num z) = 0
   depth_of_node (Word w) = 0
   depth_of_node (Str s) = 0
-  depth_of_node (List' shape parts) = depth_of_row parts + 1
+  depth_of_node (List' shape parts close) = depth_of_row parts + 1
 
   pub depth_of_row : {n : _} → Row_of-Sexp n → ℕ
   depth_of_row end_of-Sexp = 0
@@ -105,7 +105,7 @@ abbrev pub IsList : Node → Type 0
 IsList (Num z) = ⊥
 IsList (Word w) = ⊥
 IsList (Str s) = ⊥
-IsList (List' shape parts) = Unit {0}
+IsList (List' shape parts close) = Unit {0}
 
 -- The text spells the value: one list, with at most 500 lists in one another, whose items stand in the text in
 -- their order, with nothing but white space and comments around them.

@@ -1,17 +1,32 @@
 // The laws of texts: what is said of them by the definitions alone.
 
-ghost use Rattle.std.specs.Prelude.{◌≡◌, ◌≤◌, ◌⊎◌, ◌++◌, ℕ, List, Err, length, take};
+ghost use Rattle.std.specs.Prelude.{◌≡◌, ◌≤◌, ◌⊎◌, ◌++◌, ℕ, List, Ok, Err, length, take};
 ghost use Rattle.sexp_text.specs.declared.fault.TextFault.{TextFault};
 ghost use Rattle.sexp_text.specs.declared.sexp.Sexp.{Sexp};
+ghost use Rattle.sexp_text.specs.Items.{Item, items_of};
 ghost use Rattle.sexp_text.specs.Reading.{read, refused, word_end};
 ghost use Rattle.sexp_text.specs.Spelling.{SexpSpells, IsWord};
 ghost use Rattle.sexp_text.specs.Printing.{printed, tree_of};
-ghost use Rattle.sexp_text.specs.Faults.{IsNoEnd, IsCut, CanGoOn, place_of};
+ghost use Rattle.sexp_text.specs.Faults.{IsNoEnd, IsText, IsCut, CanGoOn, Refusal, place_of};
 ghost use Rattle.sexp_text.specs.declared.fault.TextWord.TheVariants.{End};
+
+/// A text spells a value exactly where reading it succeeds with that value.
+pub fn spelled_is_read()
+    ensures read { (text : List ℕ) (s : Sexp) → SexpSpells text s → read text ≡ Ok (items_of s) }
+    ensures spelled { (text : List ℕ) (items : List Item) → read text ≡ Ok items →
+        (s : Sexp) × (items ≡ items_of s) × SexpSpells text s }
+{}
 
 /// A text spells at most one value.
 pub fn one_value()
     ensures { (text : List ℕ) (s t : Sexp) → SexpSpells text s → SexpSpells text t → s ≡ t }
+{}
+
+/// A text spells a value, or has exactly one fault.
+pub fn value_or_fault()
+    ensures { (text : List ℕ) → IsText text ⊎
+        ((fault : TextFault) × (read text ≡ Err fault) × (IsText text → ⊥) ×
+        ((other : TextFault) → read text ≡ Err other → other ≡ fault)) }
 {}
 
 /// The printed text of a value that some text spells, spells that value, up to its places.
@@ -30,6 +45,10 @@ pub fn longest_reading()
     // The text before a fault other than `end` can go on to spell a value.
     ensures before { (text : List ℕ) (fault : TextFault) → read text ≡ Err fault → IsNoEnd fault →
         CanGoOn (take (place_of fault) text) }
+
+    // It stands at a part that is refused with its word: with that part no text goes on to spell a value. The part is one
+    // byte, but for `number`, `string` and `utf8`.
+    ensures refused { (text : List ℕ) (fault : TextFault) → read text ≡ Err fault → IsNoEnd fault → Refusal text fault }
 
     // A fault other than `end` stays, whatever follows the text.
     ensures stays { (text more : List ℕ) (fault : TextFault) → read text ≡ Err fault → IsNoEnd fault →

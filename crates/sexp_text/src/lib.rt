@@ -12,7 +12,10 @@ mod sexp;
 mod step;
 
 pub use fault::{TextFault, TextWord};
-pub use laws::{longest_reading, longest_word, one_value, printed_again, printed_alike};
+pub use laws::{
+    longest_reading, longest_word, one_value, printed_again, printed_alike, spelled_is_read,
+    value_or_fault,
+};
 pub use print::print_sexp;
 pub use read::read_sexp;
 pub use sexp::{Node, Sexp};

@@ -5,7 +5,7 @@ ghost use Rattle.std.specs.Char.{digit_char};
 ghost use Rattle.std.specs.Fmt.{signed_decimal};
 ghost use Rattle.sexp_text.specs.Spelling.{string_byte, quoted};
 ghost use Rattle.sexp_text.specs.Printing.{printed, printed_node};
-ghost use Rattle.sexp_text.specs.Parts.{printed_parts};
+ghost use Rattle.sexp_text.specs.words.Parts.{printed_parts};
 
 use crate::bytes::is_plain;
 use crate::sexp::{Node, Sexp};
@@ -88,7 +88,7 @@ fn print_node(alloc: Global, out: &mut Bytes, node: &Node) -> Result<(), OutOfMe
         Node::Num(n) => print_number(alloc, out, *n),
         Node::Word(text) => push_all(out, text.as_str().as_bytes()),
         Node::Str(text) => print_string(out, text.as_str().as_bytes()),
-        Node::List(parts) => {
+        Node::List { parts, .. } => {
             out.push(b'(')?;
             print_parts(alloc, out, parts.as_slice())?;
             out.push(b')')

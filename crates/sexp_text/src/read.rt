@@ -14,7 +14,7 @@ use crate::step::{finish, step};
 use std::alloc::Global;
 
 // The value that a text spells, with the one clause that its items are those that reading on lists gives.
-#[tactic(auto, unfolding(crate::specs::Reading::read, crate::specs::Fronts::front_of))]
+#[tactic(auto, unfolding(crate::specs::Reading::read, crate::specs::words::Fronts::front_of))]
 fn read_items(alloc: Global, text: &[u8]) -> Result<Sexp, TextFault>
     ensures { Gives items_of result (read text.now) }
 {

@@ -3,7 +3,7 @@
 ghost use Rattle.std.specs.Prelude.{◌≡◌, ◌++◌, Ok};
 ghost use Rattle.sexp_text.specs.Items.{items_of};
 ghost use Rattle.sexp_text.specs.Reading.{Gives, opened, closed, added};
-ghost use Rattle.sexp_text.specs.Fronts.{front_of};
+ghost use Rattle.sexp_text.specs.words.Fronts.{front_of};
 
 use crate::fault::{TextFault, TextWord};
 use crate::sexp::{Node, Sexp};
@@ -82,10 +82,12 @@ impl Progress {
     {
         match self {
             Progress::Inside { mut outer, inner } => {
-                let OpenList { at, parts } = inner;
                 let whole = Sexp {
-                    at,
-                    node: Node::List(parts),
+                    at: inner.at,
+                    node: Node::List {
+                        parts: inner.parts,
+                        close: at,
+                    },
                 };
                 match outer.pop() {
                     None => Ok(Progress::After(whole)),

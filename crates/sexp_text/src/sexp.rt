@@ -14,5 +14,6 @@ pub enum Node {
     Num(i128),
     Word(Text),
     Str(Text),
-    List(List<Sexp>),
+    /// A list: its parts, and the place of the `)` that ends it.
+    List { parts: List<Sexp>, close: usize },
 }

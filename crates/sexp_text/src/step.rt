@@ -3,7 +3,7 @@
 ghost use Rattle.std.specs.Prelude.{◌≡◌, ℕ, ◌+◌, ◌<◌, ◌^◌, IfOk};
 ghost use Rattle.sexp_text.specs.Reading.{Gives, between, begun, in_string, first_digit, second_digit, step, finish};
 ghost use Rattle.sexp_text.specs.Items.{items_of};
-ghost use Rattle.sexp_text.specs.Fronts.{front_of, seen, Stands};
+ghost use Rattle.sexp_text.specs.words.Fronts.{front_of, seen, Stands};
 
 use crate::bytes::{begins_escape, hex_value, is_hex, is_plain, is_run, is_white};
 use crate::fault::{TextFault, TextWord};
@@ -14,7 +14,7 @@ use std::alloc::Global;
 use wasm_values::Bytes;
 
 // A run or a string begins, which stands only in a list.
-#[tactic(auto, unfolding(crate::specs::Reading::begun, crate::specs::Fronts::front_of))]
+#[tactic(auto, unfolding(crate::specs::Reading::begun, crate::specs::words::Fronts::front_of))]
 fn begin(at: usize, mode: Mode, progress: Progress) -> Result<(Progress, Mode), TextFault>
     ensures next { Gives seen result (begun at mode (front_of progress)) }
     ensures mode { IfOk result (λ r. r.1 ≡ mode) }
@@ -186,7 +186,7 @@ pub(crate) fn step(
 }
 
 /// The text ends, at this place.
-#[tactic(auto, unfolding(crate::specs::Reading::finish, crate::specs::Fronts::front_of))]
+#[tactic(auto, unfolding(crate::specs::Reading::finish, crate::specs::words::Fronts::front_of))]
 pub(crate) fn finish(
     alloc: Global,
     at: usize,

@@ -1,6 +1,6 @@
 use Rattle.std.proofs.Common.{◌≡◌, drop}
 use Rattle.sexp_text.specs.Reading.{read, read_from}
-use Rattle.sexp_text.specs.Fronts.{front_of, Stands}
+use Rattle.sexp_text.specs.words.Fronts.{front_of, Stands}
 use Rattle.sexp_text.proofs.read.read_items.Given as goal
 
 abbrev pub invariant-loop-at : goal.invariant-loop-at

@@ -1,0 +1,5 @@
+pub mod Parts
+pub mod Reading
+pub mod Shapes
+pub mod Spelling
+pub mod Words
