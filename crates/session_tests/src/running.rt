@@ -2,7 +2,7 @@
 
 ghost use Rattle.std.specs.Prelude.{IsTrue};
 ghost use Rattle.type_safety.specs.Typed.{Typed};
-ghost use Rattle.wasm_instantiate.specs.Instantiation.{IsAtRest};
+ghost use Rattle.wasm_sessions.specs.Instantiation.{IsAtRest};
 
 use std::alloc::Global;
 use std::test::Fail;
@@ -13,12 +13,12 @@ use wasm_reduce::{Moved, Policy, step};
 use wasm_store::{Config, Extern, Outcome};
 use wasm_validate::{ValidModule, validate};
 
-const POLICY: Policy = Policy {
+pub(crate) const POLICY: Policy = Policy {
     pages: 1_024,
     frames: 10_000,
 };
 
-fn is_at_rest(outcome: &Outcome) -> bool
+pub(crate) fn is_at_rest(outcome: &Outcome) -> bool
     ensures { IsTrue result → IsAtRest outcome.now }
 {
     match outcome {
@@ -62,8 +62,24 @@ pub(crate) fn enter(alloc: Global, config: &mut Config, func: u32) -> Result<(),
     Ok(())
 }
 
+/// Instantiates the module that the bytes spell, where nothing runs.
+pub(crate) fn load_at_rest(
+    alloc: Global,
+    config: &mut Config,
+    bytes: &[u8],
+    externs: &Vec<Extern>,
+) -> Result<(), Fail>
+    requires { Typed config.old }
+    ensures { Typed config.new }
+{
+    if is_at_rest(config.outcome()) {
+        load(alloc, config, bytes, externs)?;
+    }
+    Ok(())
+}
+
 /// Takes a step where a module's function is on top.
-fn advance(alloc: Global, config: &mut Config) -> Result<Option<Moved>, Fail>
+pub(crate) fn advance(alloc: Global, config: &mut Config) -> Result<Option<Moved>, Fail>
     requires { Typed config.old }
     ensures { Typed config.new }
 {

@@ -2,7 +2,7 @@
 
 ghost use Rattle.std.specs.Prelude.{◌≡◌, length, IfOk};
 ghost use Rattle.type_safety.specs.Typed.{Typed};
-ghost use Rattle.wasm_instantiate.specs.Instantiation.{IsAtRest};
+ghost use Rattle.wasm_sessions.specs.Instantiation.{IsAtRest};
 
 use crate::rows::{COMPARISONS, CONTROL, Ended, OPERATORS_32, OPERATORS_64, Row, STATE};
 use crate::running::{enter, load, run_alone, run_out};

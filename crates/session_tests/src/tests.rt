@@ -1,6 +1,6 @@
 ghost use Rattle.std.specs.Prelude.{◌≡◌, length};
 ghost use Rattle.type_safety.specs.Typed.{Typed};
-ghost use Rattle.wasm_instantiate.specs.Instantiation.{IsAtRest};
+ghost use Rattle.wasm_sessions.specs.Instantiation.{IsAtRest};
 
 use crate::running::{enter, load};
 use std::alloc::Global;

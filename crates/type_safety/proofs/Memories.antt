@@ -10,7 +10,8 @@ use Rattle.wasm_store.specs.declared.store.MemInst.{MemInst}
 use Rattle.wasm_store.specs.declared.store.GlobalInst.{GlobalInst}
 use Rattle.wasm_store.specs.declared.store.Store.{Store}
 use Rattle.wasm_store.specs.Numeric.{with_global}
-use Rattle.wasm_store.specs.Memory.{items_at, overwritten, is_within, pages_of, with_bytes, is_at_most, can_grow, grown_bytes}
+use Rattle.wasm_values.specs.Types.{is_at_most}
+use Rattle.wasm_store.specs.Memory.{items_at, overwritten, is_within, pages_of, with_bytes, can_grow, grown_bytes}
 use Rattle.type_safety.specs.Shapes.{Shape, shape_of}
 use Rattle.type_safety.specs.Stores.{FuncInstTyped, TableTyped, MemoryTyped, GlobalTyped, InstanceTyped, StoreTyped}
 use Rattle.type_safety.proofs.Lists.{get-map, set_same}

@@ -1,36 +1,31 @@
 -- What is entered by the embedder, and what is added by it, in a stored configuration.
-use Rattle.std.proofs.Common.{◌≡◌, ℕ, ◌<◌, ◌≤◌, List, [], ◌∷◌, ◌++◌, Some, length, map, reverse, slice_get, get_or, unwrap_or, Bool, true, false, IsTrue, sym, ap, subst, ◌∙◌, All}
-use Rattle.std.proofs.lemmas.List.{reverse-reverse}
-use Rattle.std.proofs.lemmas.Option.{unwrap_or-slice_get}
-use Rattle.wasm_values.specs.Operators.{value_of}
-use Rattle.wasm_syntax.specs.declared.module.Func.{Func as FuncOf}
-use Rattle.wasm_syntax.specs.Trees.{Sequence, sequence_of}
-use Rattle.wasm_syntax.specs.Places.{rest_at}
-use Rattle.wasm_syntax.proofs.NextLaws.{rest_at-zero}
-use Rattle.wasm_store.specs.declared.store.Instance.{Instance}
-use Rattle.wasm_store.specs.declared.config.CodeFrame.{CodeFrame}
+use Rattle.std.proofs.Common.{◌≡◌, ℕ, ◌<◌, ◌≤◌, List, [], ◌∷◌, ◌++◌, Some, length, map, reverse, slice_get, Bool, true, false, IsTrue, sym, ap, subst, ◌∙◌, All}
+use Rattle.std.proofs.lemmas.List.{reverse-append}
 use Rattle.wasm_values.specs.declared.number.Val.{Val}
 use Rattle.wasm_values.specs.declared.number.ValType.{ValType}
 use Rattle.wasm_syntax.specs.declared.module.FuncType.{FuncType}
 use Rattle.wasm_typing.specs.Valid.{ValInRange}
 use Rattle.wasm_store.specs.declared.store.FuncInst.{FuncInst}
-use Rattle.wasm_store.specs.declared.store.FuncInst.TheVariants.{Code, Host}
+use Rattle.wasm_store.specs.declared.store.FuncInst.TheVariants.{Host}
 use Rattle.wasm_store.specs.declared.store.Extern.{Extern}
 use Rattle.wasm_store.specs.declared.store.Extern.TheVariants.{Func}
 use Rattle.wasm_store.specs.declared.store.Store.{Store}
 use Rattle.wasm_store.specs.declared.config.Frame.{Frame}
 use Rattle.wasm_store.specs.declared.config.Outcome.TheVariants.{Running}
 use Rattle.wasm_store.specs.declared.config.Config.TheInside.{Inside}
-use Rattle.wasm_store.specs.Configuration.{OpenBlock, Activation, Layer, OfCode, OfHost, Configuration}
-use Rattle.wasm_store.specs.Seen.{func_of, body_or_nothing, body_of, seen_label, seen_code, seen_frame, seen}
-use Rattle.wasm_store.specs.Control.{type_of_inst, entered}
+use Rattle.wasm_store.specs.Configuration.{Layer, Configuration}
+use Rattle.wasm_store.specs.Seen.{seen_frame, seen}
+use Rattle.wasm_store.specs.Control.{type_of_inst, IsEnterable, IsFrameOf}
 use Rattle.type_safety.specs.Shapes.{types, shape_of, ExternExists}
+use Rattle.type_safety.specs.Stores.{StoreTyped}
 use Rattle.type_safety.specs.Typed.{Typed}
 use Rattle.type_safety.proofs.Lists.{there, of_nil}
-use Rattle.wasm_instantiate.specs.Instantiation.{IsAtRest, IsFrameOf, Invoked}
-use Rattle.wasm_instantiate.specs.Hosts.{HostAdded}
+use Rattle.wasm_sessions.specs.Instantiation.{IsAtRest, Invoked}
+use Rattle.wasm_sessions.specs.Hosts.{HostAdded}
 use Rattle.wasm_instantiate.specs.Answers.{EntersAlone, ArgumentsDiffer}
-use Rattle.wasm_instantiate.proofs.HostLaws.{no_frames}
+use Rattle.wasm_instantiate.specs.words.Acting.{EntersOver}
+use Rattle.module_instances.proofs.FuncLemmas.{enterable}
+use Rattle.wasm_sessions.proofs.HostLaws.{no_frames}
 
 -- The frames, as they are seen.
 abbrev layers : List FuncInst → Inside → List Layer
@@ -44,6 +39,23 @@ entered_alone i c a values frame frames is within one made =
     let f = there i.store.funcs a (subst Q (sym is) within) in
     let F : List Frame → Configuration = λ fs. seen (record { store = i.store; frames = fs; outcome = Running }) in
     subst P is (f.0, seen_frame i.store.funcs i.store.instances frame, f.1, made f.0 f.1, ap F one)
+
+-- A function is entered where its frame is put over the others.
+pub entered_over : (i : Inside) (c : Configuration) (a : ℕ) (values : List Val) (frame : Frame) (frames : List Frame) → seen i ≡ c → a < length c.store.funcs → frames ≡ i.frames ++ frame ∷ [] → ((inst : FuncInst) → slice_get i.store.funcs a ≡ Some inst → IsFrameOf i.store.instances a values inst (seen_frame i.store.funcs i.store.instances frame)) → EntersOver c a values (seen (record { store = i.store; frames = frames; outcome = i.outcome }))
+entered_over i c a values frame frames is within more made =
+    let P : Configuration → Type 0 = λ c. EntersOver c a values (seen (record { store = i.store; frames = frames; outcome = i.outcome })) in
+    let Q : Configuration → Type 0 = λ c. a < length c.store.funcs in
+    let f = there i.store.funcs a (subst Q (sym is) within) in
+    let L : List Frame → Configuration = λ fs. record { store = i.store; frames = map (seen_frame i.store.funcs i.store.instances) fs; outcome = i.outcome } in
+    let top : reverse frames ≡ frame ∷ reverse i.frames = ap reverse more ∙ reverse-append i.frames (frame ∷ []) in
+    subst P is (f.0, seen_frame i.store.funcs i.store.instances frame, f.1, made f.0 f.1, ap L top)
+
+-- The function at an address that exists can be entered.
+pub enterable_here : (i : Inside) (c : Configuration) (a : ℕ) → seen i ≡ c → Typed c → a < length c.store.funcs → (inst : FuncInst) × (slice_get i.store.funcs a ≡ Some inst) × IsEnterable i.store.instances inst
+enterable_here i c a is typed within =
+    let T : Configuration → Type 0 = λ x. StoreTyped x.store in
+    let Q : Configuration → Type 0 = λ x. a < length x.store.funcs in
+    enterable i.store a (subst T (sym is) typed.store) (subst Q (sym is) within)
 
 -- A function that is entered at rest, with values of its parameter types, is invoked.
 pub invoked : (c d : Configuration) (e : Extern) (a : ℕ) (values : List Val) (params : List ValType) (ty : FuncType) → e ≡ Func a → IsAtRest c.outcome → types values ≡ params → All ValInRange values → params ≡ ty.params → ((inst : FuncInst) → slice_get c.store.funcs a ≡ Some inst → ty ≡ type_of_inst inst) → EntersAlone c a values d → Invoked c e values d
@@ -67,44 +79,6 @@ added i c ty funcs is typed rest few more =
     ap new more ∙ ap (λ fs. with fs (i.store.funcs ++ Host ty ∷ [])) empty ∙ sym (ap (λ fs. with fs i.store.funcs) empty)
     in
     (rest, few, subst P is same)
-
--- ---- the frame of a function
-
-module _ (funcs : List FuncInst) (instances : List Instance) (a : ℕ) (inst : FuncInst) (fn : FuncOf) (f : CodeFrame) (args : List Val) where
-  body_is : slice_get funcs a ≡ Some inst → func_of instances (Some inst) ≡ Some fn → body_of funcs instances a ≡ fn.body
-  body_is there found = ap (λ o. body_or_nothing (func_of instances o)) there ∙ ap body_or_nothing found
-
-  frame_is : slice_get funcs a ≡ Some inst → func_of instances (Some inst) ≡ Some fn → f.func ≡ a → f.locals ≡ args ++ map (λ t. value_of t 0) fn.locals → f.operands ≡ [] → f.labels ≡ [] → f.position ≡ 0 → seen_code (body_of funcs instances a) f ≡ entered f.instance a (reverse args) fn
-  frame_is there found is locals operands labels start =
-      let body = body_of funcs instances a in
-      let code : rest_at body f.position ≡ sequence_of fn.body = ap (rest_at body) start ∙ rest_at-zero body ∙ ap sequence_of (body_is there found) in
-      let own : f.locals ≡ reverse (reverse args) ++ map (λ t. value_of t 0) fn.locals = locals ∙ ap (λ l. l ++ map (λ t. value_of t 0) fn.locals) (sym (reverse-reverse args)) in
-      let make : ℕ → List Val → List Val → List OpenBlock → Sequence → Activation = λ n ls os bs r. record { instance = f.instance; func = n; locals = ls; operands = os; labels = bs; rest = r } in
-      ap (λ n. make n f.locals (reverse f.operands) (map (seen_label body) (reverse f.labels)) (rest_at body f.position)) is
-      ∙ ap (λ ls. make a ls (reverse f.operands) (map (seen_label body) (reverse f.labels)) (rest_at body f.position)) own
-      ∙ ap (λ os. make a (reverse (reverse args) ++ map (λ t. value_of t 0) fn.locals) (reverse os) (map (seen_label body) (reverse f.labels)) (rest_at body f.position)) operands
-      ∙ ap (λ ls. make a (reverse (reverse args) ++ map (λ t. value_of t 0) fn.locals) [] (map (seen_label body) (reverse ls)) (rest_at body f.position)) labels
-      ∙ ap (λ r. make a (reverse (reverse args) ++ map (λ t. value_of t 0) fn.locals) [] [] r) code
-
--- The item that is read of a slice is the one there.
-pub same_inst : {A : Type 0} → (xs slice : List A) (a : ℕ) (r x : A) → r ≡ get_or slice a r → slice ≡ xs → slice_get xs a ≡ Some x → x ≡ r
-same_inst xs slice a r x is same there = sym (is ∙ ap (λ l. get_or l a r) same ∙ sym (unwrap_or-slice_get xs a r) ∙ ap (λ o. unwrap_or o r) there)
-
--- The frame of a module's function.
-pub code_frame : (funcs : List FuncInst) (instances : List Instance) (a : ℕ) (inst : FuncInst) (fn : FuncOf) (f : CodeFrame) (args : List Val) (ty : FuncType) (instance code : ℕ) → slice_get funcs a ≡ Some inst → inst ≡ Code ty instance code → func_of instances (slice_get funcs a) ≡ Some fn → f.instance ≡ instance → f.func ≡ a → f.locals ≡ args ++ map (λ t. value_of t 0) fn.locals → f.operands ≡ [] → f.labels ≡ [] → f.position ≡ 0 → IsFrameOf instances a args inst (OfCode (seen_code (body_of funcs instances a) f))
-code_frame funcs instances a inst fn f args ty instance code there is found at func locals operands labels start =
-    let fn_of : func_of instances (Some inst) ≡ Some fn = ap (func_of instances) (sym there) ∙ found in
-    let P : FuncInst → Type 0 = λ i. IsFrameOf instances a args i (OfCode (seen_code (body_of funcs instances a) f)) in
-    let here : seen_code (body_of funcs instances a) f ≡ entered instance a (reverse args) fn =
-    frame_is funcs instances a inst fn f args there fn_of func locals operands labels start ∙ ap (λ n. entered n a (reverse args) fn) at
-    in
-    subst P (sym is) (fn, ap (λ i. func_of instances (Some i)) (sym is) ∙ fn_of, ap OfCode here)
-
--- The frame of a host's function.
-pub host_frame : (instances : List Instance) (a : ℕ) (inst : FuncInst) (args given : List Val) (ty : FuncType) → inst ≡ Host ty → given ≡ [] → IsFrameOf instances a args inst (OfHost a args given)
-host_frame instances a inst args given ty is none =
-    let P : FuncInst → Type 0 = λ i. IsFrameOf instances a args i (OfHost a args given) in
-    subst P (sym is) (ap (OfHost a args) none)
 
 -- Where the test of types fails, the arguments differ.
 pub differ : (i : Inside) (c : Configuration) (e : Extern) (a : ℕ) (slice values : List Val) (params : List ValType) (ty : FuncType) (r : Bool) → seen i ≡ c → e ≡ Func a → ExternExists (shape_of c.store) e → slice ≡ values → params ≡ ty.params → ((inst : FuncInst) → slice_get i.store.funcs a ≡ Some inst → ty ≡ type_of_inst inst) → (types slice ≡ params → IsTrue r) → r ≡ false → ArgumentsDiffer c.store e values

@@ -1,14 +1,5 @@
-pub mod SessionLaws
-pub mod Extending
-pub mod HostLaws
-pub mod Importing
-pub mod Allocating
-pub mod Initializing
-pub mod Instantiating
 pub mod ValueTypes
 pub mod EnteringLemmas
-pub mod BuildingLemmas
-pub mod WritingLemmas
-pub mod StoringLemmas
-pub mod PreparingLemmas
-pub mod StartingLemmas
+pub mod SearchLemmas
+pub mod WriteLemmas
+pub mod ActLemmas

@@ -14,6 +14,37 @@ pub enum InvFault {
     OutOfMemory,
 }
 
+/// Why an act of a host or of the embedder is refused, in this order.
+#[derive(Clone, Copy, Debug, PartialEq, Eq, Error)]
+pub enum HostFault {
+    /// What is written isn't in the pool, or the function isn't within reach.
+    #[error("not exported")]
+    NotExported,
+    #[error("the global is immutable")]
+    Immutable,
+    /// The value isn't of the global's type, or number or types of arguments or results differ.
+    #[error("values of other types")]
+    WrongType,
+    #[error("past the end")]
+    Bounds,
+    /// Pages, table entries or frames would pass their limit.
+    #[error("a limit is passed")]
+    Limit,
+    #[error("out of memory")]
+    OutOfMemory,
+}
+
+impl From<OutOfMemory> for HostFault {
+    ghost use Rattle.std.specs.Prelude.{◌≡◌};
+    ghost use Rattle.wasm_instantiate.specs.declared.faults.HostFault.TheVariants as host_fault;
+
+    ghost from_gives = { λ _ e. e ≡ host_fault.OutOfMemory };
+
+    fn from(_error: OutOfMemory) -> HostFault {
+        HostFault::OutOfMemory
+    }
+}
+
 impl From<OutOfMemory> for InvFault {
     ghost use Rattle.std.specs.Prelude.{◌≡◌};
     ghost use Rattle.wasm_instantiate.specs.declared.faults.InvFault.TheVariants as fault;
@@ -33,34 +64,5 @@ impl From<AllocError> for InvFault {
 
     fn from(_error: AllocError) -> InvFault {
         InvFault::OutOfMemory
-    }
-}
-
-/// Why an instantiation is refused.
-#[derive(Clone, Copy, Debug, PartialEq, Eq, Error)]
-pub enum InstFault {
-    /// The number of externs isn't that of imports.
-    #[error("another number of externs than of imports")]
-    Count,
-    /// The first extern that doesn't match its import.
-    #[error("extern {0} doesn't match its import")]
-    Mismatch(usize),
-    #[error("a segment passes the end of its table or memory")]
-    Bounds,
-    /// Pages, table entries or numbers of a store would pass their limits.
-    #[error("a limit is passed")]
-    Limit,
-    #[error("out of memory")]
-    OutOfMemory,
-}
-
-impl From<OutOfMemory> for InstFault {
-    ghost use Rattle.std.specs.Prelude.{◌≡◌};
-    ghost use Rattle.wasm_instantiate.specs.declared.faults.InstFault.TheVariants as fault;
-
-    ghost from_gives = { λ _ e. e ≡ fault.OutOfMemory };
-
-    fn from(_error: OutOfMemory) -> InstFault {
-        InstFault::OutOfMemory
     }
 }

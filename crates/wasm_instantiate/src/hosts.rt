@@ -2,11 +2,11 @@
 
 ghost use Rattle.std.specs.Prelude.{◌≡◌, ℕ, ◌<◌, ◌≤◌, ◌++◌, ◌∷◌, [], length, IfOk, OnOk, OnErr};
 ghost use Rattle.type_safety.specs.Typed.{Typed};
-ghost use Rattle.wasm_instantiate.specs.Instantiation.{IsAtRest};
-ghost use Rattle.wasm_instantiate.specs.Hosts.{HostAdded};
+ghost use Rattle.wasm_sessions.specs.Instantiation.{IsAtRest};
+ghost use Rattle.wasm_sessions.specs.Hosts.{HostAdded};
 
-use crate::laws::hosts_keep_types;
 use std::alloc::Global;
+use wasm_sessions::laws::hosts_keep_types;
 use wasm_store::{Config, Extern, FuncInst};
 use wasm_syntax::FuncType;
 use wasm_values::OutOfMemory;

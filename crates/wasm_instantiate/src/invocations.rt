@@ -3,15 +3,15 @@ ghost use Rattle.wasm_store.specs.declared.store.FuncInst.{FuncInst};
 ghost use Rattle.wasm_store.specs.Configuration.{Layer};
 ghost use Rattle.type_safety.specs.Shapes.{shape_of, ExternExists};
 ghost use Rattle.type_safety.specs.Typed.{Typed};
-ghost use Rattle.wasm_instantiate.specs.Instantiation.{IsAtRest, IsFrameOf, alone};
+ghost use Rattle.wasm_store.specs.Control.{IsFrameOf};
+ghost use Rattle.wasm_sessions.specs.Instantiation.{IsAtRest, alone};
 ghost use Rattle.wasm_instantiate.specs.Answers.{InvokeAnswers, EntersAlone};
 
-use crate::entering::{make_frame, type_at};
 use crate::faults::InvFault;
-use crate::laws::invocations_keep_types;
-use crate::typing::have_types;
+use crate::typing::{have_types, type_at};
 use std::alloc::Global;
-use wasm_store::{Config, Extern, Outcome};
+use wasm_sessions::laws::invocations_keep_types;
+use wasm_store::{Config, Extern, Outcome, make_frame};
 use wasm_values::{List, OutOfMemory, Val};
 
 /// Enters the function at an address with these arguments, as the only frame.

@@ -1,25 +1,19 @@
-//! Instances and sessions.
+//! The calls of a session: instances, invocations, and what hosts and the embedder do.
 #![tactic(auto)]
 
-mod constants;
-mod entering;
+mod acting;
+mod acts;
 mod faults;
 mod hosts;
-mod instances;
-mod instantiation;
 mod invocations;
-pub mod laws;
-mod limits;
-mod matching;
-mod numbering;
-mod parts;
-mod preparing;
-mod segments;
-mod storing;
+mod pool;
 mod typing;
-mod writes;
+mod writing;
 
-pub use faults::{InstFault, InvFault};
+pub use acting::host_act;
+pub use acts::HostAct;
+pub use faults::{HostFault, InvFault};
 pub use hosts::add_host;
-pub use instantiation::instantiate;
 pub use invocations::invoke;
+pub use module_instances::{InstFault, instantiate};
+pub use pool::{is_in_pool, is_in_reach};

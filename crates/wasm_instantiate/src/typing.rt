@@ -1,50 +1,23 @@
 //! Types of values and of functions.
 
-ghost use Rattle.std.specs.Prelude.{◌≡◌, IsTrue, ◌↔◌, All};
+ghost use Rattle.std.specs.Prelude.{◌≡◌, ◌<◌, length, slice_get, Some, IsTrue, IfOk, ◌↔◌, All};
 ghost use Rattle.wasm_values.specs.Operators.{type_of};
 ghost use Rattle.wasm_typing.specs.Valid.{ValInRange};
-ghost use Rattle.wasm_store.specs.Control.{is_same_type, is_same_func_type};
+ghost use Rattle.wasm_store.specs.declared.store.FuncInst.{FuncInst};
+ghost use Rattle.wasm_store.specs.Control.{type_of_inst};
 ghost use Rattle.type_safety.specs.Shapes.{types};
 
+use std::alloc::Global;
+use wasm_store::Store;
 use wasm_syntax::FuncType;
-use wasm_values::{Val, ValType};
+use wasm_values::{List, OutOfMemory, Val, ValType, is_same_type};
 
-/// Whether two value types are the same.
-pub(crate) fn is_same_type(a: ValType, b: ValType) -> bool
-    ensures { result ≡ is_same_type a b }
+/// The type of the function at an address.
+pub(crate) fn type_at(store: &Store, address: u32) -> &FuncType
+    requires { address < length store.now.funcs }
+    ensures { (inst : FuncInst) → slice_get store.now.funcs address ≡ Some inst → result.now ≡ type_of_inst inst }
 {
-    match a {
-        ValType::I32 => match b {
-            ValType::I32 => true,
-            ValType::I64 => false,
-        },
-        ValType::I64 => match b {
-            ValType::I32 => false,
-            ValType::I64 => true,
-        },
-    }
-}
-
-fn are_same_types(a: &[ValType], b: &[ValType]) -> bool
-    ensures { IsTrue result ↔ (a.now ≡ b.now) }
-{
-    if a.len() != b.len() {
-        return false;
-    }
-    for (k, ty) in a.iter().enumerate() {
-        if !is_same_type(*ty, b[k]) {
-            return false;
-        }
-    }
-    true
-}
-
-/// Whether two function types have the same parameters and results.
-pub(crate) fn is_same_func_type(a: &FuncType, b: &FuncType) -> bool
-    ensures { result ≡ is_same_func_type a.now b.now }
-{
-    are_same_types(a.params.as_slice(), b.params.as_slice())
-        && are_same_types(a.results.as_slice(), b.results.as_slice())
+    store.funcs.as_slice()[address as usize].ty()
 }
 
 fn read_type(value: Val) -> ValType
@@ -63,6 +36,14 @@ fn read_type(value: Val) -> ValType
     }
 }
 
+/// Whether a value has this type.
+pub(crate) fn has_type(value: Val, wanted: ValType) -> bool
+    ensures same { IsTrue result ↔ (type_of value ≡ wanted) }
+    ensures range { ValInRange value }
+{
+    is_same_type(read_type(value), wanted)
+}
+
 /// Whether values have these types.
 pub(crate) fn have_types(values: &[Val], wanted: &[ValType]) -> bool
     ensures same { IsTrue result ↔ (types values.now ≡ wanted.now) }
@@ -77,4 +58,12 @@ pub(crate) fn have_types(values: &[Val], wanted: &[ValType]) -> bool
         }
     }
     true
+}
+
+/// A list of the same values.
+pub(crate) fn copy_values(alloc: Global, values: &List<Val>) -> Result<List<Val>, OutOfMemory>
+    ensures { IfOk result (λ copied. copied ≡ values.now) }
+{
+    let items = Vec::from_slice(alloc, values.as_slice())?;
+    Ok(List::from_vec(items))
 }

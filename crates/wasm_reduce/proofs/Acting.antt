@@ -19,11 +19,11 @@ use Rattle.wasm_store.specs.Step.{Moves}
 use Rattle.wasm_reduce.specs.declared.effect.Effect.{Effect}
 use Rattle.wasm_reduce.specs.declared.effect.Effect.TheVariants.{Went, Trap, Leave, Enter}
 use Rattle.wasm_reduce.specs.declared.policy.Policy.{Policy}
-use Rattle.wasm_reduce.specs.Acts.{Outcomes, Can, Acts, Does, body_in, seen_in, under, moved_to, grows_in, moves_of}
+use Rattle.wasm_reduce.specs.words.Effects.{Outcomes, Can, CameOf, Does, body_in, seen_in, under, moved_to, grows_in, moves_of}
 use Rattle.wasm_reduce.proofs.Jumps.{take_it, taken_by, to_any_rest, of_any_rest}
 
 -- What came of one thing came of another that it makes possible.
-pub acts_map : (R Q : Outcomes) (s : Store) (f : CodeFrame) (s' : Store) (f' : CodeFrame) (e : Effect) → ((below : List Layer) (d : Configuration) → R below d → Q below d) → Acts R s f s' f' e → Acts Q s f s' f' e
+pub acts_map : (R Q : Outcomes) (s : Store) (f : CodeFrame) (s' : Store) (f' : CodeFrame) (e : Effect) → ((below : List Layer) (d : Configuration) → R below d → Q below d) → CameOf R s f s' f' e → CameOf Q s f s' f' e
 acts_map R Q s f s' f' Went m h = λ below. m below _ (h below)
 acts_map R Q s f s' f' Trap m h = (h.0, λ below. m below _ (h.1 below))
 acts_map R Q s f s' f' (Leave above) m h = (h.0, h.1, h.2, h.3, λ below d x. m below d (h.4 below d x))
@@ -38,12 +38,12 @@ seen_same : (s : Store) (f g : CodeFrame) → g.func ≡ f.func → seen_in s g 
 seen_same s f g e = ap (λ n. seen_code (body_of s.funcs s.instances n) g) e
 
 -- What the end of code did, by the frame's open blocks.
-pub closes : (s : Store) (f g : CodeFrame) (result : Effect) (xs : List Label) → Can (λ below d. Closes s (seen_in s f) below d (map (seen_label (body_in s f)) xs)) → reverse f.labels ≡ xs → MatchOption (slice_get xs 0) ((result ≡ Leave 0) × (g ≡ f)) (λ l. (result ≡ Went) × (g.func ≡ f.func) × ((code : List Instr) → seen_code code g ≡ record (seen_code code f) { labels = drop 1 (seen_code code f).labels; rest = rest_at code l.after })) → Acts (λ below d. Closes s (seen_in s f) below d (map (seen_label (body_in s f)) xs)) s f s g result
+pub closes : (s : Store) (f g : CodeFrame) (result : Effect) (xs : List Label) → Can (λ below d. Closes s (seen_in s f) below d (map (seen_label (body_in s f)) xs)) → reverse f.labels ≡ xs → MatchOption (slice_get xs 0) ((result ≡ Leave 0) × (g ≡ f)) (λ l. (result ≡ Went) × (g.func ≡ f.func) × ((code : List Instr) → seen_code code g ≡ record (seen_code code f) { labels = drop 1 (seen_code code f).labels; rest = rest_at code l.after })) → CameOf (λ below d. Closes s (seen_in s f) below d (map (seen_label (body_in s f)) xs)) s f s g result
 closes s f g result [] can e h =
-    subst (λ (r : Effect). Acts (λ below d. Closes s (seen_in s f) below d []) s f s g r) (sym h.0) (refl, h.1, omega arith, can, λ below d x. x)
+    subst (λ (r : Effect). CameOf (λ below d. Closes s (seen_in s f) below d []) s f s g r) (sym h.0) (refl, h.1, omega arith, can, λ below d x. x)
 closes s f g result (l ∷ ls) can e h =
     let code = body_in s f in
-    subst (λ (r : Effect). Acts (λ below d. Closes s (seen_in s f) below d (map (seen_label (body_in s f)) (l ∷ ls))) s f s g r) (sym h.0) (λ below.
+    subst (λ (r : Effect). CameOf (λ below d. Closes s (seen_in s f) below d (map (seen_label (body_in s f)) (l ∷ ls))) s f s g r) (sym h.0) (λ below.
     ap (λ a. going s a below) (
     seen_same s f g h.1
     ∙ h.2 code

@@ -19,7 +19,7 @@ use Rattle.wasm_store.specs.Control.{type_of_inst, given_to, Leaves, Closes, Bra
 use Rattle.wasm_store.specs.Step.{PlainStep, InstructionStep, Moves}
 use Rattle.wasm_reduce.specs.declared.policy.Policy.{Policy}
 use Rattle.wasm_reduce.specs.Policies.{grows_next, PolicyStep, PassesFrames}
-use Rattle.wasm_reduce.specs.Layers.{EntersNone, BeginsInside}
+use Rattle.wasm_reduce.specs.words.Layers.{EntersNone, BeginsInside}
 use Rattle.wasm_reduce.proofs.Determined.{determined}
 
 -- Frames that are left.

@@ -15,8 +15,8 @@ use Rattle.wasm_reduce.specs.declared.effect.Effect.{Effect}
 use Rattle.wasm_reduce.specs.declared.effect.Effect.TheVariants.{Went, Trap, Leave, Enter}
 use Rattle.wasm_reduce.specs.declared.policy.Policy.{Policy}
 use Rattle.wasm_reduce.specs.Policies.{grows_next, PolicyStep, PassesFrames}
-use Rattle.wasm_reduce.specs.Acts.{Can, Acts, SameCode, seen_in, moved_to, under, moves_of}
-use Rattle.wasm_reduce.specs.Layers.{BeginsInside, HasTop, layers, stands_for}
+use Rattle.wasm_reduce.specs.words.Effects.{Can, CameOf, SameCode, seen_in, moved_to, under, moves_of}
+use Rattle.wasm_reduce.specs.words.Layers.{BeginsInside, HasTop, layers, stands_for}
 use Rattle.wasm_reduce.proofs.Counts.{leaves_fewer, leaves_any, enters_longer, enters_any, stays, passes_not, passes_not_within}
 
 top_of : (policy : Policy) (s : Store) (ys : List Frame) (d : Configuration) → TopMoves (grows_next policy s (layers s ys)) s (layers s ys) d → (f : CodeFrame) × (below : List Frame) × (ys ≡ Code f ∷ below) × moves_of policy s f (layers s below) d
@@ -71,11 +71,11 @@ module _ (policy : Policy) (s : Store) (xs : List Frame) (o : Outcome) (t : Top 
       ap (λ (x : Store). stands_for x ys o) same
       ∙ ap (λ (r : List Frame). record { store = s; frames = layers s r; outcome = o }) (on_top ∙ sym t.on_top)
 
-  module _ (s' : Store) (ys : List Frame) (effect : Effect) (acted : (f : CodeFrame) (below : List Frame) → HasTop xs f below → (g : CodeFrame) × HasTop ys g below × Acts (moves_of policy s f) s f s' g effect) where
-    acts_as : (e : Effect) → effect ≡ e → (g : CodeFrame) × HasTop ys g t.below × Acts (moves_of policy s t.f) s t.f s' g e
+  module _ (s' : Store) (ys : List Frame) (effect : Effect) (acted : (f : CodeFrame) (below : List Frame) → HasTop xs f below → (g : CodeFrame) × HasTop ys g below × CameOf (moves_of policy s f) s f s' g effect) where
+    acts_as : (e : Effect) → effect ≡ e → (g : CodeFrame) × HasTop ys g t.below × CameOf (moves_of policy s t.f) s t.f s' g e
     acts_as e is =
         let a = acted t.f t.below t.on_top in
-        (a.0, a.1, subst (λ (x : Effect). Acts (moves_of policy s t.f) s t.f s' a.0 x) is a.2)
+        (a.0, a.1, subst (λ (x : Effect). CameOf (moves_of policy s t.f) s t.f s' a.0 x) is a.2)
 
     -- ---- the frame goes on
 

@@ -1,4 +1,2 @@
 pub mod Policies
-pub mod Acts
-pub mod Layers
-pub mod Kinds
+pub mod words

@@ -1,14 +1,18 @@
 -- Steps under a policy, which settles the one free choice of a step (Core Specification, section 4.4.4, memory.grow) and
 -- limits the frames. Policies are the project's own.
-use Rattle.std.specs.Prelude.{ℕ, ◌+◌, ◌<◌, Bool, false, ◌&&◌, nat_le, List, [], ◌∷◌, length, sum_by, slice_get, Option, Some, None, option_and_then}
+use Rattle.std.specs.Prelude.{◌≡◌, ℕ, ◌+◌, ◌<◌, Bool, false, ◌&&◌, nat_le, List, [], ◌∷◌, length, sum_by, slice_get, Option, Some, None, option_and_then}
 use Rattle.wasm_values.specs.declared.number.Val.{Val}
 use Rattle.wasm_values.specs.Operators.{number_of}
 use Rattle.wasm_store.specs.declared.store.MemInst.{MemInst}
 use Rattle.wasm_store.specs.declared.store.Store.{Store}
+use Rattle.wasm_store.specs.declared.config.Outcome.{Outcome}
+use Rattle.wasm_store.specs.declared.config.Outcome.TheVariants.{Running, Done, Trapped}
 use Rattle.wasm_store.specs.Configuration.{Activation, Layer, OfCode, OfHost, Configuration}
 use Rattle.wasm_store.specs.Memory.{pages_of, memory_address, can_grow}
 use Rattle.wasm_store.specs.Step.{StepBy}
 use Rattle.wasm_reduce.specs.declared.policy.Policy.{Policy}
+use Rattle.wasm_reduce.specs.declared.moved.Moved.{Moved}
+use Rattle.wasm_reduce.specs.declared.moved.Moved.TheVariants as moved
 
 -- The pages of all memories of a store together.
 abbrev pub pages_in : Store → ℕ
@@ -44,3 +48,9 @@ PolicyStep policy c d = StepBy (grows_next policy c.store c.frames) c d
 abbrev pub PassesFrames : Policy → Configuration → Type 0
 PassesFrames policy c =
     (d : Configuration) × PolicyStep policy c d × (length c.frames < length d.frames) × (policy.frames < length d.frames)
+
+-- The word for an outcome.
+abbrev pub Tells : Outcome → Moved → Type 0
+Tells Running word = word ≡ moved.Went
+Tells (Done values) word = word ≡ moved.Done
+Tells Trapped word = word ≡ moved.Trapped

@@ -3,8 +3,8 @@
 ghost use Rattle.std.specs.Prelude.{◌≡◌, All, IfOk, OnErr};
 ghost use Rattle.wasm_store.specs.Step.{PlainStep};
 ghost use Rattle.type_safety.specs.Stores.{MemoryTyped};
-ghost use Rattle.wasm_reduce.specs.Acts.{Can, Acts, SameCode, seen_in, moved_to, grows_in, moves_of};
-ghost use Rattle.wasm_reduce.specs.Layers.{BeginsInside};
+ghost use Rattle.wasm_reduce.specs.words.Effects.{Can, CameOf, SameCode, seen_in, moved_to, grows_in, moves_of};
+ghost use Rattle.wasm_reduce.specs.words.Layers.{BeginsInside};
 
 use crate::control::{choose, close, count_of, open};
 use crate::effect::Effect;
@@ -15,7 +15,7 @@ use crate::reading::act_reading;
 use crate::values::{grow, set_global, size, store_number};
 use std::alloc::Global;
 use wasm_store::{CodeFrame, Store};
-use wasm_syntax::{Instr, Next, Plain};
+use wasm_syntax::{Next, Plain, Simple};
 use wasm_values::OutOfMemory;
 
 /// An instruction without immediates that is no numeric operator.
@@ -29,7 +29,7 @@ fn act_plain(
 ) -> Result<Effect, OutOfMemory>
     requires sizes { All MemoryTyped store.old.memories }
     requires can { Can (λ below d. PlainStep (grows_in policy.now store.old (seen_in store.old frame.old)) store.old (moved_to store.old frame.old on) below d op) }
-    ensures ok { IfOk result (Acts (λ below d. PlainStep (grows_in policy.now store.old (seen_in store.old frame.old)) store.old (moved_to store.old frame.old on) below d op) store.old frame.old store.new frame.new) }
+    ensures ok { IfOk result (CameOf (λ below d. PlainStep (grows_in policy.now store.old (seen_in store.old frame.old)) store.old (moved_to store.old frame.old on) below d op) store.old frame.old store.new frame.new) }
     ensures code { SameCode store.old store.new }
     ensures err { OnErr result ((store.new ≡ store.old) × (frame.new ≡ frame.old)) }
 {
@@ -64,17 +64,17 @@ pub fn act(
 ) -> Result<Effect, OutOfMemory>
     requires sizes { All MemoryTyped store.old.memories }
     requires can { Can (moves_of policy.now store.old frame.old) }
-    ensures ok { IfOk result (Acts (moves_of policy.now store.old frame.old) store.old frame.old store.new frame.new) }
+    ensures ok { IfOk result (CameOf (moves_of policy.now store.old frame.old) store.old frame.old store.new frame.new) }
     ensures code { SameCode store.old store.new }
     ensures err { OnErr result ((store.new ≡ store.old) × (frame.new ≡ frame.old) × BeginsInside (seen_in store.old frame.old).rest) }
 {
     match next_in(store, frame) {
         Next::One(instr) => {
             let on = frame.position + 1;
-            match *instr {
-                Instr::Plain(op) => act_plain(alloc, store, frame, op, policy, on),
-                Instr::GlobalSet(x) => Ok(set_global(store, frame, x, on)),
-                Instr::Store(op, _, offset) => {
+            match instr {
+                Simple::Plain(op) => act_plain(alloc, store, frame, op, policy, on),
+                Simple::GlobalSet(x) => Ok(set_global(store, frame, x, on)),
+                Simple::Store(op, _, offset) => {
                     Ok(store_number(alloc, store, frame, op, offset, on))
                 }
                 _ => act_reading(store, frame, instr, on),

@@ -6,12 +6,12 @@ ghost use Rattle.wasm_store.specs.declared.store.FuncInst.{FuncInst};
 ghost use Rattle.wasm_store.specs.declared.store.Instance.{Instance};
 ghost use Rattle.wasm_store.specs.declared.store.TableInst.{TableInst};
 ghost use Rattle.wasm_store.specs.Control.{CallStep, CallIndirectStep, is_same_func_type, type_of_inst};
-ghost use Rattle.wasm_reduce.specs.Acts.{Can, Acts, moved_to};
+ghost use Rattle.wasm_reduce.specs.words.Effects.{Can, CameOf, moved_to};
 
 use crate::effect::Effect;
-use crate::find::{entry_at, func_address, is_same_type, type_of};
+use crate::find::{entry_at, func_address};
 use crate::operands::top_number;
-use wasm_store::{CodeFrame, Store, TableInst};
+use wasm_store::{CodeFrame, Store, TableInst, is_same_func_type};
 use wasm_syntax::FuncType;
 
 /// A type of an instance.
@@ -40,13 +40,13 @@ fn has_type(store: &Store, func: u32, wanted: &FuncType) -> bool
     requires { (inst : FuncInst) × (slice_get store.now.funcs func ≡ Some inst) }
     ensures { (inst : FuncInst) × (slice_get store.now.funcs func ≡ Some inst) × (result ≡ is_same_func_type (type_of_inst inst) wanted.now) }
 {
-    is_same_type(type_of(&store.funcs.as_slice()[func as usize]), wanted)
+    is_same_func_type(store.funcs.as_slice()[func as usize].ty(), wanted)
 }
 
 /// `call`.
 pub fn call(store: &Store, frame: &CodeFrame, x: u32, on: u32) -> Effect
     requires { Can (λ below d. CallStep store.now (moved_to store.now frame.now on) below d x) }
-    ensures { Acts (λ below d. CallStep store.now (moved_to store.now frame.now on) below d x) store.now frame.now store.now frame.now result }
+    ensures { CameOf (λ below d. CallStep store.now (moved_to store.now frame.now on) below d x) store.now frame.now store.now frame.now result }
 {
     Effect::Enter {
         func: func_address(store, frame.instance, x),
@@ -58,7 +58,7 @@ pub fn call(store: &Store, frame: &CodeFrame, x: u32, on: u32) -> Effect
 /// `call_indirect`.
 pub fn call_indirect(store: &Store, frame: &CodeFrame, x: u32, on: u32) -> Effect
     requires { Can (λ below d. CallIndirectStep store.now (moved_to store.now frame.now on) below d x) }
-    ensures { Acts (λ below d. CallIndirectStep store.now (moved_to store.now frame.now on) below d x) store.now frame.now store.now frame.now result }
+    ensures { CameOf (λ below d. CallIndirectStep store.now (moved_to store.now frame.now on) below d x) store.now frame.now store.now frame.now result }
 {
     let wanted = wanted_type(store, frame.instance, x);
     let table = table_of(store, frame.instance);

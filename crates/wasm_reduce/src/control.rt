@@ -6,7 +6,7 @@ ghost use Rattle.wasm_syntax.specs.Places.{rest_at};
 ghost use Rattle.wasm_store.specs.Configuration.{with_operands};
 ghost use Rattle.wasm_store.specs.Control.{count_of, opened, chosen, Branches, jumped};
 ghost use Rattle.wasm_store.specs.Seen.{seen_code, seen_label};
-ghost use Rattle.wasm_reduce.specs.Acts.{Can, Acts, seen_in, under};
+ghost use Rattle.wasm_reduce.specs.words.Effects.{Can, CameOf, seen_in, under};
 
 use crate::effect::Effect;
 use crate::operands::{drop_top, keep, pop, top_number};
@@ -149,7 +149,7 @@ fn jump(frame: &mut CodeFrame, k: u32)
 pub fn branch(store: &Store, frame: &mut CodeFrame, k: u32, above: usize) -> Effect
     requires within { above ≤ length frame.old.operands }
     requires can { Can (λ below d. Branches store.now (under (seen_in store.now frame.old) above) below d (seen_in store.now frame.old).labels k) }
-    ensures ok { Acts (λ below d. Branches store.now (under (seen_in store.now frame.old) above) below d (seen_in store.now frame.old).labels k) store.now frame.old store.now frame.new result }
+    ensures ok { CameOf (λ below d. Branches store.now (under (seen_in store.now frame.old) above) below d (seen_in store.now frame.old).labels k) store.now frame.old store.now frame.new result }
     ensures func { frame.new.func ≡ frame.old.func }
 {
     if k as usize == frame.labels.len() {

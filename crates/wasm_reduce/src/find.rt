@@ -1,37 +1,22 @@
 //! What a store and a frame name.
 
 ghost use Rattle.std.specs.Prelude.{◌≡◌, ℕ, ◌≤◌, length, slice_get, Some, option_and_then};
-ghost use Rattle.std.specs.Option.{option_copied};
 ghost use Rattle.wasm_syntax.specs.FlatForm.{flat_body};
 ghost use Rattle.wasm_syntax.specs.Places.{IsNext};
 ghost use Rattle.wasm_store.specs.Configuration.{address_in};
-ghost use Rattle.wasm_store.specs.Control.{entry_at, type_of_inst, is_same_func_type};
-ghost use Rattle.wasm_store.specs.Seen.{func_of};
-ghost use Rattle.wasm_reduce.specs.Acts.{body_in};
+ghost use Rattle.wasm_store.specs.Control.{entry_at};
+ghost use Rattle.wasm_reduce.specs.words.Effects.{body_in};
 
-use wasm_store::{CodeFrame, FuncInst, GlobalInst, Store, TableInst};
-use wasm_syntax::{Func, FuncType, Next};
+use wasm_store::{CodeFrame, GlobalInst, Store, TableInst};
+use wasm_syntax::Next;
 use wasm_values::Val;
-
-/// The module's function at an address, if it is one.
-pub fn func_at(store: &Store, func: u32) -> Option<&Func>
-    ensures { option_copied result ≡ func_of store.now.instances (slice_get store.now.funcs func) }
-{
-    match store.funcs.as_slice().get(func as usize) {
-        Some(FuncInst::Code { instance, code, .. }) => {
-            let found = store.instances.as_slice().get(*instance as usize)?;
-            found.code.as_slice().get(*code as usize)
-        }
-        _ => None,
-    }
-}
 
 /// What comes next in a frame. Past the end of its code nothing is left.
 pub fn next_in<'a>(store: &'a Store, frame: &CodeFrame) -> Next<'a>
     ensures next { IsNext (body_in store.now frame.now) frame.now.position result }
     ensures short { length (flat_body (body_in store.now frame.now)) ≤ 4294967295 }
 {
-    match func_at(store, frame.func) {
+    match store.func_at(frame.func) {
         Some(func) => {
             let position = frame.position as usize;
             if position < func.body.len() {
@@ -95,20 +80,4 @@ pub fn entry_at(table: &TableInst, i: u32) -> Option<u32>
         Some(entry) => *entry,
         None => None,
     }
-}
-
-/// The type of a function.
-pub fn type_of(inst: &FuncInst) -> &FuncType
-    ensures { result.now ≡ type_of_inst inst.now }
-{
-    match inst {
-        FuncInst::Code { ty, .. } | FuncInst::Host { ty } => ty,
-    }
-}
-
-/// Whether two function types have the same parameters and results.
-pub fn is_same_type(a: &FuncType, b: &FuncType) -> bool
-    ensures { result ≡ is_same_func_type a.now b.now }
-{
-    a.params == b.params && a.results == b.results
 }

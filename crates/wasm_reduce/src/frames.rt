@@ -1,7 +1,6 @@
 //! Frames that are left and entered.
 
-ghost use Rattle.std.specs.Prelude.{◌≡◌, ℕ, ◌+◌, ◌≤◌, List, [], ◌∷◌, ◌++◌, Some, take, drop, length, map, reverse, slice_get, IfOk, OnOk, OnErr};
-ghost use Rattle.wasm_values.specs.Operators.{value_of};
+ghost use Rattle.std.specs.Prelude.{◌≡◌, ℕ, ◌+◌, ◌≤◌, List, [], ◌∷◌, ◌++◌, Some, take, drop, length, reverse, slice_get, IfOk, OnOk, OnErr};
 ghost use Rattle.wasm_store.specs.declared.config.CodeFrame.{CodeFrame};
 ghost use Rattle.wasm_store.specs.declared.config.Frame.{Frame};
 ghost use Rattle.wasm_store.specs.declared.store.FuncInst.{FuncInst};
@@ -9,23 +8,20 @@ ghost use Rattle.wasm_store.specs.declared.store.Store.{Store};
 ghost use Rattle.wasm_store.specs.Configuration.{Layer, OfCode};
 ghost use Rattle.wasm_store.specs.Seen.{seen_frame};
 ghost use Rattle.wasm_store.specs.Control.{given_to, type_of_inst};
-ghost use Rattle.wasm_reduce.specs.Acts.{moved_to, under};
-ghost use Rattle.wasm_reduce.specs.Layers.{HasTop, IsEnterable, IsFrameOf, layers};
+ghost use Rattle.wasm_reduce.specs.words.Effects.{moved_to, under};
+ghost use Rattle.wasm_reduce.specs.words.Layers.{HasTop, layers};
 
-use crate::find::{func_at, type_of};
 use crate::operands::drop_top;
 use std::alloc::Global;
-use wasm_store::{CodeFrame, Frame, FuncInst, Outcome, Store};
-use wasm_values::{List, OutOfMemory, Val, ValType};
+use wasm_store::{Frame, Outcome, Store};
+use wasm_values::{List, OutOfMemory, Val};
 
 /// The number of results of a function.
 pub fn result_count(store: &Store, func: u32) -> usize
     requires { (inst : FuncInst) × (slice_get store.now.funcs func ≡ Some inst) }
     ensures { (inst : FuncInst) → slice_get store.now.funcs func ≡ Some inst → result ≡ length (type_of_inst inst).results }
 {
-    type_of(&store.funcs.as_slice()[func as usize])
-        .results
-        .len()
+    store.funcs.as_slice()[func as usize].ty().results.len()
 }
 
 /// The number of parameters of a function.
@@ -33,7 +29,7 @@ pub fn param_count(store: &Store, func: u32) -> usize
     requires { (inst : FuncInst) × (slice_get store.now.funcs func ≡ Some inst) }
     ensures { (inst : FuncInst) → slice_get store.now.funcs func ≡ Some inst → result ≡ length (type_of_inst inst).params }
 {
-    type_of(&store.funcs.as_slice()[func as usize]).params.len()
+    store.funcs.as_slice()[func as usize].ty().params.len()
 }
 
 /// The function of the top frame.
@@ -125,58 +121,6 @@ pub fn pass_down(
     give_to(&mut frames[waiting], results)?;
     let _ = frames.pop();
     Ok(())
-}
-
-/// Zero, of a type.
-fn zero_of(ty: ValType) -> Val
-    ensures { result ≡ value_of ty 0 }
-{
-    match ty {
-        ValType::I32 => Val::I32(0),
-        ValType::I64 => Val::I64(0),
-    }
-}
-
-/// Adds zeros of these types.
-fn add_zeros(locals: &mut List<Val>, types: &[ValType]) -> Result<(), OutOfMemory>
-    ensures { OnOk result (locals.new ≡ locals.old ++ map (λ t. value_of t 0) types.now) }
-{
-    for ty in types {
-        locals.push(zero_of(*ty))?;
-    }
-    Ok(())
-}
-
-/// The frame of a function that is entered with these arguments.
-pub fn make_frame(
-    alloc: Global,
-    store: &Store,
-    a: u32,
-    args: List<Val>,
-) -> Result<Frame, OutOfMemory>
-    requires { (inst : FuncInst) × (slice_get store.now.funcs a ≡ Some inst) × IsEnterable store.now.instances inst }
-    ensures { IfOk result (λ frame. (inst : FuncInst) → slice_get store.now.funcs a ≡ Some inst → IsFrameOf store.now.instances a (reverse args) inst (seen_frame store.now.funcs store.now.instances frame)) }
-{
-    match &store.funcs.as_slice()[a as usize] {
-        FuncInst::Code { instance, .. } => {
-            let func = func_at(store, a).unwrap();
-            let mut locals = args;
-            add_zeros(&mut locals, func.locals.as_slice())?;
-            Ok(Frame::Code(CodeFrame {
-                instance: *instance,
-                func: a,
-                locals,
-                operands: List::new(alloc),
-                labels: List::new(alloc),
-                position: 0,
-            }))
-        }
-        FuncInst::Host { .. } => Ok(Frame::Host {
-            func: a,
-            args,
-            given: List::new(alloc),
-        }),
-    }
 }
 
 /// Takes operands off, first so many above and then so many more, and goes on at a position.

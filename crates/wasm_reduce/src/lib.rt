@@ -16,6 +16,8 @@ mod policy;
 mod reading;
 mod values;
 
+pub use frames::pass_down;
 pub use machine::step;
+pub use memory::{grow_memory, lets_grow};
 pub use moved::{Moved, StepFault};
 pub use policy::Policy;

@@ -8,21 +8,19 @@ ghost use Rattle.wasm_store.specs.Control.{Leaves, Enters};
 ghost use Rattle.type_safety.specs.Safety.{HasCodeOnTop};
 ghost use Rattle.type_safety.specs.Stores.{MemoryTyped};
 ghost use Rattle.type_safety.specs.Typed.{Typed};
-ghost use Rattle.wasm_reduce.specs.Policies.{PolicyStep, PassesFrames};
-ghost use Rattle.wasm_reduce.specs.Acts.{Can, Acts, SameCode, seen_in, moved_to, under, moves_of};
-ghost use Rattle.wasm_reduce.specs.Layers.{BeginsInside, HasTop, Tells, layers, stands_for};
+ghost use Rattle.wasm_reduce.specs.Policies.{PolicyStep, PassesFrames, Tells};
+ghost use Rattle.wasm_reduce.specs.words.Effects.{Can, CameOf, SameCode, seen_in, moved_to, under, moves_of};
+ghost use Rattle.wasm_reduce.specs.words.Layers.{BeginsInside, HasTop, layers, stands_for};
 
 use crate::act::act;
 use crate::effect::Effect;
-use crate::frames::{
-    make_frame, param_count, pass_down, put_over, result_count, top_func, top_operands,
-};
+use crate::frames::{param_count, pass_down, put_over, result_count, top_func, top_operands};
 use crate::laws::{policies_go_on, policy_steps_keep_types};
 use crate::moved::{Moved, StepFault};
 use crate::policy::Policy;
 use std::alloc::Global;
 use std::mem;
-use wasm_store::{Config, Frame, Outcome, Store};
+use wasm_store::{Config, Frame, Outcome, Store, make_frame};
 use wasm_values::{List, OutOfMemory};
 
 /// One step of a typed configuration that runs a module's function. More operands than a `u32` counts below a block are
@@ -132,7 +130,7 @@ fn act_on_top(
 ) -> Result<Effect, OutOfMemory>
     requires sizes { All MemoryTyped store.old.memories }
     requires can { (f : CodeFrame) × (below : List Frame) × HasTop frames.old.items f below × Can (moves_of policy.now store.old f) }
-    ensures ok { IfOk result (λ effect. (f : CodeFrame) (below : List Frame) → HasTop frames.old.items f below → (g : CodeFrame) × HasTop frames.new.items g below × Acts (moves_of policy.now store.old f) store.old f store.new g effect) }
+    ensures ok { IfOk result (λ effect. (f : CodeFrame) (below : List Frame) → HasTop frames.old.items f below → (g : CodeFrame) × HasTop frames.new.items g below × CameOf (moves_of policy.now store.old f) store.old f store.new g effect) }
     ensures code { SameCode store.old store.new }
     ensures err { OnErr result ((store.new ≡ store.old) × ((f : CodeFrame) (below : List Frame) → HasTop frames.old.items f below → HasTop frames.new.items f below × BeginsInside (seen_in store.old f).rest)) }
 {

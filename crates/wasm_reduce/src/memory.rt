@@ -3,7 +3,7 @@
 ghost use Rattle.std.specs.Prelude.{◌≡◌, ℕ, ◌+◌, ◌*◌, ◌/◌, ◌^◌, ◌<◌, ◌≤◌, ◌&&◌, true, false, nat_le, if◌then◌else◌, List, ◌++◌, length, replicate, slice_get, slice_set, sum_by, Some, None, MatchOption, IsTrue, OnOk, OnErr};
 ghost use Rattle.wasm_values.specs.Operators.{width_of, sign_extended, number_of_bytes, bytes_of_number};
 ghost use Rattle.wasm_syntax.specs.Accesses.{bytes_loaded, loaded_type};
-ghost use Rattle.wasm_store.specs.Memory.{is_signed_load, value_loaded, items_at, overwritten, is_within, pages_of, can_grow, is_at_most, grown_bytes};
+ghost use Rattle.wasm_store.specs.Memory.{is_signed_load, value_loaded, items_at, overwritten, is_within, pages_of, can_grow, grown_bytes};
 ghost use Rattle.wasm_store.specs.declared.store.MemInst.{MemInst};
 
 use crate::policy::Policy;
@@ -11,7 +11,7 @@ use std::alloc::Global;
 use std::mem;
 use wasm_store::MemInst;
 use wasm_syntax::{LoadOp, bytes_loaded, loaded_type};
-use wasm_values::{Bytes, List, OutOfMemory, Val, ValType, load_le, sext, store_le};
+use wasm_values::{Bytes, List, OutOfMemory, Val, ValType, is_at_most, load_le, sext, store_le};
 
 /// Whether a load extends what it reads by its sign.
 fn is_signed(op: LoadOp) -> bool
@@ -24,16 +24,6 @@ fn is_signed(op: LoadOp) -> bool
     }
 }
 
-/// How many bits a value has.
-fn width_of(ty: ValType) -> u32
-    ensures { result ≡ width_of ty }
-{
-    match ty {
-        ValType::I32 => 32,
-        ValType::I64 => 64,
-    }
-}
-
 /// The number that a load gives for the bytes that it reads.
 fn number_loaded(op: LoadOp, bytes: &[u8]) -> u64
     requires { length bytes.now ≡ bytes_loaded op }
@@ -42,11 +32,7 @@ fn number_loaded(op: LoadOp, bytes: &[u8]) -> u64
 {
     let number = load_le(bytes);
     if is_signed(op) {
-        sext(
-            8 * bytes_loaded(op) as u32,
-            width_of(loaded_type(op)),
-            number,
-        )
+        sext(8 * bytes_loaded(op) as u32, loaded_type(op).bits(), number)
     } else {
         number
     }
@@ -141,16 +127,6 @@ pub fn page_count(memory: &MemInst) -> usize
     memory.bytes.len() / 65_536
 }
 
-/// Whether a number is at most a bound, where there is one.
-fn is_at_most(n: usize, bound: Option<u32>) -> bool
-    ensures { result ≡ is_at_most n bound }
-{
-    match bound {
-        Some(bound) => n <= bound as usize,
-        None => true,
-    }
-}
-
 /// Whether a memory can grow by so many pages.
 fn can_grow(memory: &MemInst, pages: u32) -> bool
     ensures { result ≡ can_grow memory.now pages }
@@ -160,7 +136,7 @@ fn can_grow(memory: &MemInst, pages: u32) -> bool
 }
 
 /// Whether the pages of all memories, with so many more, are at most a limit.
-fn fits(memories: &[MemInst], pages: u32, limit: u32) -> bool
+fn stay_within(memories: &[MemInst], pages: u32, limit: u32) -> bool
     ensures { result ≡ nat_le (sum_by pages_of memories.now + pages) limit }
 {
     let mut total = pages as usize;
@@ -178,11 +154,11 @@ pub fn lets_grow(policy: &Policy, memories: &[MemInst], m: u32, pages: u32) -> b
     requires { (mem : MemInst) × (slice_get memories.now m ≡ Some mem) }
     ensures { (mem : MemInst) → slice_get memories.now m ≡ Some mem → result ≡ (can_grow mem pages && nat_le (sum_by pages_of memories.now + pages) policy.now.pages) }
 {
-    can_grow(&memories[m as usize], pages) && fits(memories, pages, policy.pages)
+    can_grow(&memories[m as usize], pages) && stay_within(memories, pages, policy.pages)
 }
 
 /// Adds bytes of zero.
-fn add_zeros(bytes: &mut Bytes, count: usize) -> Result<(), OutOfMemory>
+fn add_zero_bytes(bytes: &mut Bytes, count: usize) -> Result<(), OutOfMemory>
     ensures ok { OnOk result (bytes.new ≡ bytes.old ++ replicate count 0) }
     ensures err { OnErr result (bytes.new ≡ bytes.old) }
 {
@@ -208,7 +184,7 @@ pub fn grow_memory(
     ensures err { OnErr result (memories.new ≡ memories.old) }
 {
     let mut all = mem::replace(memories, List::new(alloc)).into_vec();
-    let grown = add_zeros(&mut all[m as usize].bytes, 65_536 * pages as usize);
+    let grown = add_zero_bytes(&mut all[m as usize].bytes, 65_536 * pages as usize);
     *memories = List::from_vec(all);
     grown
 }

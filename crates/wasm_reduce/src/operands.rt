@@ -3,7 +3,7 @@
 ghost use Rattle.std.specs.Prelude.{◌≡◌, ℕ, ◌+◌, ◌-◌, ◌≤◌, ◌==◌, if◌then◌else◌, true, false, List, ◌∷◌, ◌++◌, length, take, drop, reverse, OnOk, OnErr, MatchBool, MatchOption};
 ghost use Rattle.wasm_values.specs.Operators.{num_operands, num_unary, num_binary, value_of, operand_type, result_type};
 
-use wasm_values::{IntOp, List, NumOp, OutOfMemory, Val, num1, num2};
+use wasm_values::{List, NumOp, OutOfMemory, Val, num1, num2};
 
 /// Puts a value on top.
 pub fn push(operands: &mut List<Val>, value: Val) -> Result<(), OutOfMemory>
@@ -92,18 +92,6 @@ pub fn select(operands: &mut List<Val>)
     let second = pop(operands);
     if condition == 0 {
         set_top(operands, second);
-    }
-}
-
-/// Whether a numeric instruction has one operand.
-pub fn is_unary(op: NumOp) -> bool
-    ensures { result ≡ (num_operands op == 1) }
-{
-    match op {
-        NumOp::W32(op) | NumOp::W64(op) => {
-            matches!(op, IntOp::Eqz | IntOp::Clz | IntOp::Ctz | IntOp::Popcnt)
-        }
-        NumOp::Wrap | NumOp::ExtendS | NumOp::ExtendU => true,
     }
 }
 

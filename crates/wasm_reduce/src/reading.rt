@@ -1,11 +1,12 @@
 //! Instructions that only read the store.
 
 ghost use Rattle.std.specs.Prelude.{◌≡◌, ℕ, ◌∷◌, Bool, List, Some, slice_get, unwrap_or, IsTrue, IfOk, OnOk, OnErr};
+ghost use Rattle.wasm_syntax.specs.Items.{instr_seen};
 ghost use Rattle.wasm_syntax.specs.Trees.{instruction_of};
 ghost use Rattle.wasm_store.specs.Control.{Branches, BrIfStep, BrTableStep};
-ghost use Rattle.wasm_reduce.specs.Acts.{Can, Acts, Does, moved_to};
-ghost use Rattle.wasm_reduce.specs.Kinds.{only_reads, is_variable};
-ghost use Rattle.wasm_reduce.specs.Layers.{EntersNone};
+ghost use Rattle.wasm_reduce.specs.words.Effects.{Can, CameOf, Does, moved_to};
+ghost use Rattle.wasm_reduce.specs.words.Kinds.{only_reads, is_variable};
+ghost use Rattle.wasm_reduce.specs.words.Layers.{EntersNone};
 
 use crate::calls::{call, call_indirect};
 use crate::control::{branch, label_of};
@@ -14,13 +15,13 @@ use crate::find::{global, global_address, local};
 use crate::operands::{pop, push, top, top_number};
 use crate::values::{compute, load};
 use wasm_store::{CodeFrame, Store};
-use wasm_syntax::Instr;
+use wasm_syntax::Simple;
 use wasm_values::{OutOfMemory, Val};
 
 /// `br_if`.
 fn br_if(store: &Store, frame: &mut CodeFrame, k: u32, on: u32) -> Effect
     requires { Can (λ below d. BrIfStep store.now (moved_to store.now frame.old on) below d k) }
-    ensures { Acts (λ below d. BrIfStep store.now (moved_to store.now frame.old on) below d k) store.now frame.old store.now frame.new result }
+    ensures { CameOf (λ below d. BrIfStep store.now (moved_to store.now frame.old on) below d k) store.now frame.old store.now frame.new result }
 {
     let condition = top_number(frame.operands.as_slice());
     if condition == 0 {
@@ -35,35 +36,35 @@ fn br_if(store: &Store, frame: &mut CodeFrame, k: u32, on: u32) -> Effect
 fn act_variable(
     store: &Store,
     frame: &mut CodeFrame,
-    instr: &Instr,
+    instr: Simple<'_>,
     on: u32,
 ) -> Result<Effect, OutOfMemory>
-    requires kind { IsTrue (is_variable instr.now) }
-    requires can { (grows : Bool) × Can (Does grows (instruction_of instr.now) store.now frame.old on) }
-    ensures ok { IfOk result (λ effect. (grows : Bool) → Acts (Does grows (instruction_of instr.now) store.now frame.old on) store.now frame.old store.now frame.new effect) }
-    ensures err { OnErr result ((frame.new ≡ frame.old) × EntersNone (instruction_of instr.now)) }
+    requires kind { IsTrue (is_variable (instr_seen instr)) }
+    requires can { (grows : Bool) × Can (Does grows (instruction_of (instr_seen instr)) store.now frame.old on) }
+    ensures ok { IfOk result (λ effect. (grows : Bool) → CameOf (Does grows (instruction_of (instr_seen instr.entry)) store.now frame.old on) store.now frame.old store.now frame.new effect) }
+    ensures err { OnErr result ((frame.new ≡ frame.old) × EntersNone (instruction_of (instr_seen instr.entry))) }
 {
     match instr {
-        Instr::LocalGet(x) => {
-            let value = local(frame.locals.as_slice(), *x);
+        Simple::LocalGet(x) => {
+            let value = local(frame.locals.as_slice(), x);
             push(&mut frame.operands, value)?;
             frame.position = on;
             Ok(Effect::Went)
         }
-        Instr::LocalSet(x) => {
+        Simple::LocalSet(x) => {
             let value = pop(&mut frame.operands);
-            frame.locals.set(*x as usize, value);
+            frame.locals.set(x as usize, value);
             frame.position = on;
             Ok(Effect::Went)
         }
-        Instr::LocalTee(x) => {
+        Simple::LocalTee(x) => {
             let value = top(frame.operands.as_slice());
-            frame.locals.set(*x as usize, value);
+            frame.locals.set(x as usize, value);
             frame.position = on;
             Ok(Effect::Went)
         }
-        Instr::GlobalGet(x) => {
-            let a = global_address(store, frame.instance, *x);
+        Simple::GlobalGet(x) => {
+            let a = global_address(store, frame.instance, x);
             push(&mut frame.operands, global(store, a).value)?;
             frame.position = on;
             Ok(Effect::Went)
@@ -76,31 +77,31 @@ fn act_variable(
 pub fn act_reading(
     store: &Store,
     frame: &mut CodeFrame,
-    instr: &Instr,
+    instr: Simple<'_>,
     on: u32,
 ) -> Result<Effect, OutOfMemory>
-    requires kind { IsTrue (only_reads instr.now) }
-    requires can { (grows : Bool) × Can (Does grows (instruction_of instr.now) store.now frame.old on) }
-    ensures ok { IfOk result (λ effect. (grows : Bool) → Acts (Does grows (instruction_of instr.now) store.now frame.old on) store.now frame.old store.now frame.new effect) }
-    ensures err { OnErr result ((frame.new ≡ frame.old) × EntersNone (instruction_of instr.now)) }
+    requires kind { IsTrue (only_reads (instr_seen instr)) }
+    requires can { (grows : Bool) × Can (Does grows (instruction_of (instr_seen instr)) store.now frame.old on) }
+    ensures ok { IfOk result (λ effect. (grows : Bool) → CameOf (Does grows (instruction_of (instr_seen instr.entry)) store.now frame.old on) store.now frame.old store.now frame.new effect) }
+    ensures err { OnErr result ((frame.new ≡ frame.old) × EntersNone (instruction_of (instr_seen instr.entry))) }
 {
     match instr {
-        Instr::Num(op) => Ok(compute(store, frame, *op, on)),
-        Instr::Const(value) => {
-            push(&mut frame.operands, *value)?;
+        Simple::Num(op) => Ok(compute(store, frame, op, on)),
+        Simple::Const(value) => {
+            push(&mut frame.operands, value)?;
             frame.position = on;
             Ok(Effect::Went)
         }
-        Instr::Load(op, _, offset) => Ok(load(store, frame, *op, *offset, on)),
-        Instr::Br(k) => Ok(branch(store, frame, *k, 0)),
-        Instr::BrIf(k) => Ok(br_if(store, frame, *k, on)),
-        Instr::BrTable(labels, last) => {
+        Simple::Load(op, _, offset) => Ok(load(store, frame, op, offset, on)),
+        Simple::Br(k) => Ok(branch(store, frame, k, 0)),
+        Simple::BrIf(k) => Ok(br_if(store, frame, k, on)),
+        Simple::BrTable(labels, last) => {
             let chosen = top_number(frame.operands.as_slice());
-            let k = label_of(labels.as_slice(), *last, chosen);
+            let k = label_of(labels, last, chosen);
             Ok(branch(store, frame, k, 1))
         }
-        Instr::Call(x) => Ok(call(store, frame, *x, on)),
-        Instr::CallIndirect(x) => Ok(call_indirect(store, frame, *x, on)),
+        Simple::Call(x) => Ok(call(store, frame, x, on)),
+        Simple::CallIndirect(x) => Ok(call_indirect(store, frame, x, on)),
         _ => act_variable(store, frame, instr, on),
     }
 }

@@ -5,14 +5,12 @@ ghost use Rattle.wasm_values.specs.Operators.{number_of};
 ghost use Rattle.wasm_store.specs.Memory.{LoadStep, StoreStep, SizeStep, GrowStep};
 ghost use Rattle.wasm_store.specs.Numeric.{NumStep, GlobalSetStep};
 ghost use Rattle.type_safety.specs.Stores.{MemoryTyped};
-ghost use Rattle.wasm_reduce.specs.Acts.{Can, Acts, SameCode, seen_in, moved_to, grows_in};
+ghost use Rattle.wasm_reduce.specs.words.Effects.{Can, CameOf, SameCode, seen_in, moved_to, grows_in};
 
 use crate::effect::Effect;
 use crate::find::{global, global_address, memory_address};
 use crate::memory::{grow_memory, is_within, lets_grow, page_count, value_at, write_number};
-use crate::operands::{
-    compute_one, compute_two, is_unary, pop, pop_number, push, set_top, top_number,
-};
+use crate::operands::{compute_one, compute_two, pop, pop_number, push, set_top, top_number};
 use crate::policy::Policy;
 use std::alloc::Global;
 use wasm_store::{CodeFrame, GlobalInst, Store};
@@ -22,9 +20,9 @@ use wasm_values::{NumOp, OutOfMemory, Val};
 /// A numeric instruction.
 pub fn compute(store: &Store, frame: &mut CodeFrame, op: NumOp, on: u32) -> Effect
     requires { Can (λ below d. NumStep store.now (moved_to store.now frame.old on) below d op) }
-    ensures { Acts (λ below d. NumStep store.now (moved_to store.now frame.old on) below d op) store.now frame.old store.now frame.new result }
+    ensures { CameOf (λ below d. NumStep store.now (moved_to store.now frame.old on) below d op) store.now frame.old store.now frame.new result }
 {
-    if is_unary(op) {
+    if op.is_unary() {
         compute_one(&mut frame.operands, op);
     } else if !compute_two(&mut frame.operands, op) {
         return Effect::Trap;
@@ -36,7 +34,7 @@ pub fn compute(store: &Store, frame: &mut CodeFrame, op: NumOp, on: u32) -> Effe
 /// A load.
 pub fn load(store: &Store, frame: &mut CodeFrame, op: LoadOp, offset: u32, on: u32) -> Effect
     requires { Can (λ below d. LoadStep store.now (moved_to store.now frame.old on) below d op offset) }
-    ensures { Acts (λ below d. LoadStep store.now (moved_to store.now frame.old on) below d op offset) store.now frame.old store.now frame.new result }
+    ensures { CameOf (λ below d. LoadStep store.now (moved_to store.now frame.old on) below d op offset) store.now frame.old store.now frame.new result }
 {
     let m = memory_address(store, frame.instance);
     let at = top_number(frame.operands.as_slice()) as usize + offset as usize;
@@ -70,7 +68,7 @@ pub fn store_number(
     on: u32,
 ) -> Effect
     requires { Can (λ below d. StoreStep store.old (moved_to store.old frame.old on) below d op offset) }
-    ensures ok { Acts (λ below d. StoreStep store.old (moved_to store.old frame.old on) below d op offset) store.old frame.old store.new frame.new result }
+    ensures ok { CameOf (λ below d. StoreStep store.old (moved_to store.old frame.old on) below d op offset) store.old frame.old store.new frame.new result }
     ensures code { SameCode store.old store.new }
 {
     let m = memory_address(store, frame.instance);
@@ -93,7 +91,7 @@ pub fn store_number(
 pub fn size(store: &Store, frame: &mut CodeFrame, on: u32) -> Result<Effect, OutOfMemory>
     requires sizes { All MemoryTyped store.now.memories }
     requires can { Can (λ below d. SizeStep store.now (moved_to store.now frame.old on) below d) }
-    ensures ok { IfOk result (Acts (λ below d. SizeStep store.now (moved_to store.now frame.old on) below d) store.now frame.old store.now frame.new) }
+    ensures ok { IfOk result (CameOf (λ below d. SizeStep store.now (moved_to store.now frame.old on) below d) store.now frame.old store.now frame.new) }
     ensures err { OnErr result (frame.new ≡ frame.old) }
 {
     let m = memory_address(store, frame.instance);
@@ -112,7 +110,7 @@ pub fn grow(
     on: u32,
 ) -> Result<Effect, OutOfMemory>
     requires { Can (λ below d. GrowStep (grows_in policy.now store.old (seen_in store.old frame.old)) store.old (moved_to store.old frame.old on) below d) }
-    ensures ok { IfOk result (Acts (λ below d. GrowStep (grows_in policy.now store.old (seen_in store.old frame.old)) store.old (moved_to store.old frame.old on) below d) store.old frame.old store.new frame.new) }
+    ensures ok { IfOk result (CameOf (λ below d. GrowStep (grows_in policy.now store.old (seen_in store.old frame.old)) store.old (moved_to store.old frame.old on) below d) store.old frame.old store.new frame.new) }
     ensures code { SameCode store.old store.new }
     ensures err { OnErr result ((store.new ≡ store.old) × (frame.new ≡ frame.old)) }
 {
@@ -133,7 +131,7 @@ pub fn grow(
 /// `global.set`.
 pub fn set_global(store: &mut Store, frame: &mut CodeFrame, x: u32, on: u32) -> Effect
     requires { Can (λ below d. GlobalSetStep store.old (moved_to store.old frame.old on) below d x) }
-    ensures ok { Acts (λ below d. GlobalSetStep store.old (moved_to store.old frame.old on) below d x) store.old frame.old store.new frame.new result }
+    ensures ok { CameOf (λ below d. GlobalSetStep store.old (moved_to store.old frame.old on) below d x) store.old frame.old store.new frame.new result }
     ensures code { SameCode store.old store.new }
 {
     let a = global_address(store, frame.instance, x);

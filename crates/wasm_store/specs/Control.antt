@@ -1,11 +1,9 @@
 -- Control instructions, and how frames are entered and left (Core Specification, sections 4.4.5 to 4.4.7).
 use Rattle.std.specs.Prelude.{◌≡◌, ℕ, zero, suc, ◌+◌, ◌-◌, ◌≤◌, Bool, true, false, ◌&&◌, List, [], ◌∷◌, ◌++◌, Option, Some, None, option_and_then, unwrap_or, length, take, drop, map, reverse, slice_get}
-use Rattle.std.specs.Cmp.Lexicographic.{pointwise}
 use Rattle.wasm_values.specs.declared.number.Val.{Val}
 use Rattle.wasm_values.specs.declared.number.Val.TheVariants as val
 use Rattle.wasm_values.specs.declared.number.ValType.{ValType}
-use Rattle.wasm_values.specs.declared.number.ValType.TheVariants.{I32, I64}
-use Rattle.wasm_values.specs.Operators.{value_of}
+use Rattle.wasm_values.specs.Types.{are_same_types, zeros_of}
 use Rattle.wasm_syntax.specs.declared.module.FuncType.{FuncType}
 use Rattle.wasm_syntax.specs.declared.module.Func.{Func}
 use Rattle.wasm_syntax.specs.Trees.{Sequence, sequence_of}
@@ -117,11 +115,23 @@ entered instance func args fn =
     record {
       instance = instance;
       func = func;
-      locals = reverse args ++ map (λ t. value_of t 0) fn.locals;
+      locals = reverse args ++ zeros_of fn.locals;
       operands = [];
       labels = [];
       rest = sequence_of fn.body;
     }
+
+-- A function can be entered: its code is there; a host's needs none.
+abbrev pub IsEnterable : List Instance → FuncInst → Type 0
+IsEnterable instances (Code ty instance code) = (fn : Func) × (func_of instances (Some (Code ty instance code)) ≡ Some fn)
+IsEnterable instances (Host ty) = Unit {0}
+
+-- A frame is that of this function, at this address, entered with these arguments, the first one first (section 4.4.7,
+-- invocation of function address).
+abbrev pub IsFrameOf : List Instance → (a : ℕ) → (args : List Val) → FuncInst → Layer → Type 0
+IsFrameOf instances a args (Code ty instance code) layer =
+    (fn : Func) × (func_of instances (Some (Code ty instance code)) ≡ Some fn) × (layer ≡ OfCode (entered instance a (reverse args) fn))
+IsFrameOf instances a args (Host ty) layer = layer ≡ OfHost a args []
 
 -- The arguments of a call, the last first.
 abbrev pub arguments : FuncType → Activation → List Val
@@ -154,15 +164,9 @@ CallStep s f below d x = (a : ℕ) × (address_in (λ i. i.funcs) (instance_of s
 
 -- ---- indirect calls
 
--- Two value types are the same.
-abbrev pub is_same_type : ValType → ValType → Bool
-is_same_type I32 I32 = true
-is_same_type I64 I64 = true
-is_same_type _ _ = false
-
 -- Two function types have the same parameters and results.
 abbrev pub is_same_func_type : FuncType → FuncType → Bool
-is_same_func_type a b = pointwise is_same_type a.params b.params && pointwise is_same_type a.results b.results
+is_same_func_type a b = are_same_types a.params b.params && are_same_types a.results b.results
 
 -- A function that was found is entered where it has the wanted type, and else traps.
 abbrev pub CallsInst : Store → Activation → List Layer → Configuration → (a : ℕ) → FuncInst → (same : Bool) → Type 0

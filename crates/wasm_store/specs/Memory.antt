@@ -5,6 +5,7 @@ use Rattle.wasm_values.specs.declared.number.Val.TheVariants as val
 use Rattle.wasm_values.specs.declared.number.ValType.{ValType}
 use Rattle.wasm_values.specs.declared.number.ValType.TheVariants.{I32, I64}
 use Rattle.wasm_values.specs.Operators.{value_of, width_of, sign_extended, number_of_bytes, bytes_of_number}
+use Rattle.wasm_values.specs.Types.{is_at_most}
 use Rattle.wasm_syntax.specs.declared.instr.LoadOp.{LoadOp}
 use Rattle.wasm_syntax.specs.declared.instr.LoadOp.TheVariants as load
 use Rattle.wasm_syntax.specs.declared.instr.StoreOp.{StoreOp}
@@ -91,11 +92,6 @@ abbrev pub SizeStep : Store → Activation → List Layer → Configuration → 
 SizeStep s f below d =
     (m : ℕ) × (mem : MemInst) × (memory_address s f ≡ Some m) × (slice_get s.memories m ≡ Some mem)
     × (d ≡ going s (pushed f (val.I32 (pages_of mem))) below)
-
--- A number is at most a bound, where there is one.
-abbrev pub is_at_most : ℕ → Option ℕ → Bool
-is_at_most n None = true
-is_at_most n (Some bound) = nat_le n bound
 
 -- A memory can grow by so many pages: there are then at most 65,536, and at most its maximum (section 4.5.3.7).
 abbrev pub can_grow : MemInst → (pages : ℕ) → Bool

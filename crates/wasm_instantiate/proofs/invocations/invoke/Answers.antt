@@ -5,7 +5,7 @@ use Rattle.wasm_store.specs.declared.store.FuncInst.{FuncInst}
 use Rattle.wasm_store.specs.Configuration.{Configuration}
 use Rattle.wasm_store.specs.Control.{type_of_inst}
 use Rattle.type_safety.specs.Shapes.{types}
-use Rattle.wasm_instantiate.specs.Instantiation.{Invoked}
+use Rattle.wasm_sessions.specs.Instantiation.{Invoked}
 use Rattle.wasm_instantiate.specs.Answers.{EntersAlone}
 use Rattle.wasm_instantiate.proofs.EnteringLemmas.{invoked, differ}
 use Rattle.wasm_instantiate.proofs.invocations.invoke.Goals as goal

@@ -4,7 +4,7 @@ use Rattle.wasm_syntax.specs.Places.{rest_at}
 use Rattle.wasm_store.specs.Configuration.{with_operands}
 use Rattle.wasm_store.specs.Control.{jumped}
 use Rattle.wasm_store.specs.Seen.{body_of, seen_code, seen_label}
-use Rattle.wasm_reduce.specs.Acts.{body_in, seen_in, under}
+use Rattle.wasm_reduce.specs.words.Effects.{body_in, seen_in, under}
 use Rattle.wasm_reduce.proofs.Jumps.{found, labels_leave, labels_out, labels_within, labels_wide, labels_go}
 use Rattle.wasm_reduce.proofs.control.branch.Goals as goal
 

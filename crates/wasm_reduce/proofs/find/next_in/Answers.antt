@@ -3,7 +3,7 @@ use Rattle.std.specs.Option.{option_copied}
 use Rattle.wasm_syntax.specs.FlatForm.{flat_body}
 use Rattle.wasm_syntax.specs.Places.{rest_at}
 use Rattle.wasm_store.specs.Seen.{body_or_nothing}
-use Rattle.wasm_reduce.specs.Acts.{body_in}
+use Rattle.wasm_reduce.specs.words.Effects.{body_in}
 use Rattle.wasm_reduce.proofs.Ends.{past_the_end, none_left}
 use Rattle.wasm_reduce.proofs.find.next_in.Goals as goal
 

@@ -6,7 +6,7 @@ use Rattle.wasm_store.specs.declared.config.Outcome.TheVariants.{Running}
 use Rattle.wasm_store.specs.declared.store.Store.{Store}
 use Rattle.wasm_store.specs.Seen.{seen_frame}
 use Rattle.wasm_store.specs.Control.{given_to}
-use Rattle.wasm_reduce.specs.Layers.{layers}
+use Rattle.wasm_reduce.specs.words.Layers.{layers}
 use Rattle.wasm_reduce.proofs.Stacks.{second_is, reverse-set_second, reverse-pop, two_or_more}
 use Rattle.wasm_reduce.proofs.frames.pass_down.Goals as goal
 

@@ -2,7 +2,7 @@ use Rattle.std.proofs.Common.{◌≡◌, ◌-◌, ◌∷◌, length, get_or, set
 use Rattle.wasm_store.specs.declared.config.Frame.TheVariants.{Code}
 use Rattle.wasm_store.specs.Configuration.{Layer}
 use Rattle.wasm_store.specs.Seen.{seen_frame}
-use Rattle.wasm_reduce.specs.Layers.{layers}
+use Rattle.wasm_reduce.specs.words.Layers.{layers}
 use Rattle.wasm_reduce.proofs.Stacks.{reverse-push, second_is, reverse-set_second}
 use Rattle.wasm_reduce.proofs.frames.put_over.Goals as goal
 

@@ -4,7 +4,7 @@ use Rattle.wasm_values.specs.declared.number.Val.{Val}
 use Rattle.wasm_store.specs.declared.config.CodeFrame.{CodeFrame}
 use Rattle.wasm_store.specs.declared.config.Frame.{Frame}
 use Rattle.wasm_store.specs.declared.config.Frame.TheVariants.{Code}
-use Rattle.wasm_reduce.specs.Layers.{HasTop}
+use Rattle.wasm_reduce.specs.words.Layers.{HasTop}
 use Rattle.wasm_reduce.proofs.Stacks.{last_is, reverse-part}
 use Rattle.wasm_reduce.proofs.frames.top_operands.Goals as goal
 use Rattle.wasm_reduce.proofs.frames.top_operands.Goals.{In-Code}

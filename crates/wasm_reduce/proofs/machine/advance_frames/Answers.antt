@@ -3,7 +3,7 @@ use Rattle.wasm_store.specs.declared.config.Frame.{Frame}
 use Rattle.wasm_store.specs.declared.config.Outcome.{Outcome}
 use Rattle.wasm_store.specs.declared.config.Outcome.TheVariants.{Running}
 use Rattle.wasm_reduce.specs.Policies.{PolicyStep}
-use Rattle.wasm_reduce.specs.Layers.{stands_for}
+use Rattle.wasm_reduce.specs.words.Layers.{stands_for}
 use Rattle.wasm_reduce.proofs.Stepping.{top, inside, unchanged, went, went_within, traps, traps_within, left_store, left_top, leave_can, leave_step, leave_within, entered_store, entered_top, enter_can, enter_step, enter_passes, enter_within}
 use Rattle.wasm_reduce.proofs.machine.advance_frames.Goals as goal
 

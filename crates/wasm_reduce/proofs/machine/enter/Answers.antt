@@ -1,13 +1,13 @@
-use Rattle.std.proofs.Common.{◌≡◌, ◌∷◌, ◌≤◌, List, length, take, drop, reverse, ap, subst, arith, ◌∙◌}
-use Rattle.std.proofs.lemmas.List.{length-drop, length-reverse}
+use Rattle.std.proofs.Common.{◌≡◌, ◌∷◌, ◌≤◌, List, length, take, drop, reverse, sym, ap, subst, arith, ◌∙◌}
+use Rattle.std.proofs.lemmas.List.{length-drop, length-reverse, reverse-reverse}
 use Rattle.std.proofs.lemmas.Result.{on_ok_weaker}
 use Rattle.wasm_values.specs.declared.number.Val.{Val}
 use Rattle.wasm_store.specs.declared.config.Outcome.TheVariants.{Running}
 use Rattle.wasm_store.specs.Configuration.{Layer, OfCode, Configuration}
 use Rattle.wasm_store.specs.Seen.{seen_frame}
-use Rattle.wasm_store.specs.Control.{type_of_inst}
-use Rattle.wasm_reduce.specs.Acts.{moved_to, under}
-use Rattle.wasm_reduce.specs.Layers.{IsFrameOf, layers, stands_for}
+use Rattle.wasm_store.specs.Control.{type_of_inst, IsFrameOf}
+use Rattle.wasm_reduce.specs.words.Effects.{moved_to, under}
+use Rattle.wasm_reduce.specs.words.Layers.{layers, stands_for}
 use Rattle.wasm_reduce.proofs.Entering.{args_within, enters_by}
 use Rattle.wasm_reduce.proofs.machine.enter.Goals as goal
 
@@ -46,7 +46,7 @@ returns-clause-ok c =
     let fits : length (type_of_inst inst).params ≤ length (drop above (reverse f.operands)) = rw (← same) within in
     let args = c.in_ok-args.ensures f below (ap reverse c.deref.ensures.value ∙ top) in
     let frame = c.in_ok-frame.ensures inst enters.1 in
-    let made = subst (λ (vs : List Val). IsFrameOf s.instances a vs inst (seen_frame s.funcs s.instances c.in_ok-frame.frame)) (args ∙ ap (λ n. take n (drop above (reverse f.operands))) count) frame in
+    let made = subst (λ (vs : List Val). IsFrameOf s.instances a vs inst (seen_frame s.funcs s.instances c.in_ok-frame.frame)) (sym (reverse-reverse c.in_ok-args.args) ∙ ap reverse (args ∙ ap (λ n. take n (drop above (reverse f.operands))) count)) frame in
     let d : Configuration = stands_for s c.put_over.new.frames.items Running in
     let frames = h s f below top ∙ ap (λ n. seen_frame s.funcs s.instances c.in_ok-frame.frame ∷ OfCode (under (under (moved_to s f c.args.on) above) n) ∷ layers s below) count in (
       inst,

@@ -2,7 +2,7 @@ use Rattle.std.proofs.Common.{◌≡◌, ◌≤◌, length, take, drop, reverse,
 use Rattle.std.proofs.lemmas.Result.{on_ok_weaker}
 use Rattle.wasm_store.specs.declared.config.Frame.TheVariants.{Code}
 use Rattle.wasm_store.specs.Control.{type_of_inst, given_to}
-use Rattle.wasm_reduce.specs.Layers.{layers}
+use Rattle.wasm_reduce.specs.words.Layers.{layers}
 use Rattle.wasm_reduce.proofs.machine.leave.Goals as goal
 
 pub returns-clause-ok : goal.returns-clause-ok

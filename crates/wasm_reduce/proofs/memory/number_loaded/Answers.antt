@@ -22,8 +22,8 @@ returns-then-is_signed-clause-fits c =
     in
     let value : c.sext.result ≡ sign_extended (8 * bytes_loaded op) (width_of (loaded_type op)) (number_of_bytes c.args.bytes.now) =
     c.sext.ensures
-    ∙ ap (λ n. sign_extended (8 * n) c.width_of.result c.load_le-number.result) c.bytes_loaded.ensures.value
-    ∙ ap (λ n. sign_extended (8 * bytes_loaded op) n c.load_le-number.result) (c.width_of.ensures ∙ ap width_of c.loaded_type.ensures)
+    ∙ ap (λ n. sign_extended (8 * n) c.bits.result c.load_le-number.result) c.bytes_loaded.ensures.value
+    ∙ ap (λ n. sign_extended (8 * bytes_loaded op) n c.load_le-number.result) (c.bits.ensures ∙ ap width_of c.loaded_type.ensures)
     ∙ ap (λ n. sign_extended (8 * bytes_loaded op) (width_of (loaded_type op)) n) c.load_le-number.ensures
     in
     omega (arith, small, value)

@@ -2,7 +2,7 @@ use Rattle.std.proofs.Common.{◌≡◌, ◌∷◌, length, reverse, ap, sym, �
 use Rattle.std.proofs.lemmas.List.{length-reverse}
 use Rattle.wasm_values.specs.declared.number.Val.TheVariants.{I32}
 use Rattle.wasm_store.specs.Control.{Branches, BrIfStep}
-use Rattle.wasm_reduce.specs.Acts.{seen_in, moved_to, under}
+use Rattle.wasm_reduce.specs.words.Effects.{seen_in, moved_to, under}
 use Rattle.wasm_reduce.proofs.Acting.{acts_map, of_br_if, to_br_if}
 use Rattle.wasm_reduce.proofs.reading.br_if.Goals as goal
 

@@ -1,7 +1,0 @@
-use Rattle.std.proofs.Common.{◌≡◌, ℕ, List}
-use Rattle.wasm_store.specs.declared.store.Extern.{Extern}
-use Rattle.host_acts.proofs.SearchLemmas.{NoneBefore}
-use Rattle.host_acts.proofs.pool.is_among.Given as goal
-
-abbrev pub invariant-loop-export : goal.invariant-loop-export
-invariant-loop-export l = NoneBefore (λ (x : List ℕ × Extern). x.1 ≡ l.wanted) l.exports l.export-index

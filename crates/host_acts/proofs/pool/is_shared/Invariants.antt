@@ -1,7 +1,0 @@
-use Rattle.wasm_store.specs.declared.store.Instance.{Instance}
-use Rattle.host_acts.specs.Finding.{IsSharedBy}
-use Rattle.host_acts.proofs.SearchLemmas.{NoneBefore}
-use Rattle.host_acts.proofs.pool.is_shared.Given as goal
-
-abbrev pub invariant-loop-instance : goal.invariant-loop-instance
-invariant-loop-instance l = NoneBefore (λ (i : Instance). IsSharedBy l.store i l.address) l.store.instances l.instance-index

@@ -1,0 +1,3 @@
+-- Words of proofs and of private contracts.
+pub mod Building
+pub mod Putting

@@ -1,6 +1,0 @@
-use Rattle.std.proofs.Common.{◌≡◌, ◌++◌}
-use Rattle.std.specs.List.{range_with_len}
-use Rattle.wasm_instantiate.proofs.numbering.add_numbers.Given as goal
-
-abbrev pub invariant-loop-k : goal.invariant-loop-k
-invariant-loop-k l = l.addresses ≡ l.initial.addresses ++ range_with_len l.first l.k

@@ -1,5 +1,0 @@
-use Rattle.std.proofs.Common.{◌≡◌, None, replicate}
-use Rattle.wasm_instantiate.proofs.parts.make_table.Given as goal
-
-abbrev pub invariant-entries : goal.invariant-entries
-invariant-entries l = l.entries ≡ replicate l.counter None

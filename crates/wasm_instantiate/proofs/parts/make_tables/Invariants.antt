@@ -1,6 +1,0 @@
-use Rattle.std.proofs.Common.{◌≡◌, map, take}
-use Rattle.wasm_instantiate.specs.Instantiation.{made_table}
-use Rattle.wasm_instantiate.proofs.parts.make_tables.Given as goal
-
-abbrev pub invariant-loop-limits : goal.invariant-loop-limits
-invariant-loop-limits l = l.made ≡ map made_table (take l.limits-index l.«module».tables)

@@ -1,0 +1,7 @@
+use Rattle.std.proofs.Common.{◌≡◌, ℕ, List}
+use Rattle.wasm_store.specs.declared.store.Extern.{Extern}
+use Rattle.wasm_instantiate.proofs.SearchLemmas.{NoneBefore}
+use Rattle.wasm_instantiate.proofs.pool.is_among.Given as goal
+
+abbrev pub invariant-loop-export : goal.invariant-loop-export
+invariant-loop-export l = NoneBefore (λ (x : List ℕ × Extern). x.1 ≡ l.wanted) l.exports l.export-index

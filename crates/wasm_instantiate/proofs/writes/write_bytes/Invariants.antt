@@ -1,6 +1,0 @@
-use Rattle.std.proofs.Common.{◌≡◌, take}
-use Rattle.wasm_store.specs.Memory.{overwritten}
-use Rattle.wasm_instantiate.proofs.writes.write_bytes.Given as goal
-
-abbrev pub invariant-loop-k : goal.invariant-loop-k
-invariant-loop-k l = l.bytes ≡ overwritten l.initial.bytes l.at (take l.k l.others)

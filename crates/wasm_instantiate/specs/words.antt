@@ -1,0 +1,4 @@
+-- Words of proofs and of private contracts.
+pub mod Finding
+pub mod Writing
+pub mod Acting

@@ -1,0 +1,4 @@
+-- Words of proofs and of private contracts.
+pub mod Effects
+pub mod Layers
+pub mod Kinds
