@@ -1,0 +1,19 @@
+-- Statements of laws, and words that they are said in.
+pub mod Known
+pub mod Laws
+pub mod Steps
+pub mod Assertions
+pub mod Renewals
+pub mod Blocks
+pub mod Openings
+pub mod Entries
+pub mod Labels
+pub mod Typed
+pub mod Tested
+pub mod Calls
+pub mod Choices
+pub mod Shapes
+pub mod Noted
+pub mod Branches
+pub mod Endings
+pub mod HandOvers
