@@ -26,3 +26,14 @@ def once(words, sink):
         seconds = time.monotonic() - begun
     process.returncode = os.waitstatus_to_exitcode(status)
     return process.returncode, seconds, usage.ru_maxrss / 1024
+
+
+def spent(words, sink):
+    """The processor seconds, of the program and of the system for it, and the peak memory in MiB of one run that must succeed."""
+    with open(sink, "wb") as output:
+        process = subprocess.Popen(words, stdin=subprocess.DEVNULL, stdout=output)
+        _, status, usage = os.wait4(process.pid, 0)
+    process.returncode = os.waitstatus_to_exitcode(status)
+    if process.returncode != 0:
+        raise SystemExit(f"{' '.join(words)} ended with status {process.returncode}")
+    return usage.ru_utime + usage.ru_stime, usage.ru_maxrss / 1024
