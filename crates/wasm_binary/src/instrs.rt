@@ -5,10 +5,10 @@ ghost use Rattle.binary_grammar.specs.words.Reading.{Gives, place};
 ghost use Rattle.binary_grammar.specs.words.CodeReading.{as_items, word32_at, word64_at, index_at, indexed_at, simple_at, head_at, op_at, kind_at, item_at, FitsIn};
 
 use crate::entries::read_list;
-use crate::leb::{take_s32, take_s64};
 use crate::read::{malformed, number_fault, place, read_byte, read_number};
 use crate::types::{read_block_type, read_tag};
 use binary_grammar::{DecodeFault, DecodeWord};
+use binary_numbers::{take_s32, take_s64};
 use std::alloc::Global;
 use wasm_syntax::{Head, Item, Kind, MAX_ITEMS, Opcode, Plain, opcode};
 use wasm_values::{LimitWord, Val, ValType};

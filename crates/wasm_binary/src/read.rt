@@ -2,8 +2,8 @@ ghost use Rattle.std.specs.Prelude.{◌≡◌, ◌≤◌, ◌-◌, ◌^◌, ◌<
 ghost use Rattle.std.specs.Prelude.{Ok};
 ghost use Rattle.binary_grammar.specs.words.Reading.{Gives, Reader, number_fault_of, text_of, place, number_at, byte_at, run_at, bytes_at, name_at, region_at, ended};
 
-use crate::leb::take_u32;
 use binary_grammar::{DecodeFault, DecodeWord, LebFault};
+use binary_numbers::take_u32;
 use std::alloc::Global;
 use wasm_values::{Bytes, Text};
 

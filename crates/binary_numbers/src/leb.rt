@@ -1,3 +1,4 @@
+//! Numbers in little-endian groups of seven bits: how they are read.
 ghost use Rattle.std.specs.Prelude.{◌≡◌, ℕ, ◌+◌, ◌-◌, ◌*◌, ◌^◌, ◌<◌, ◌≤◌, List, ◌++◌, length, IfOk, Ok, Err, ℤ, slice_range};
 ghost use Rattle.binary_grammar.specs.Numbers.{twos_complement, SpellsU32, SpellsS32, SpellsS64, EndsInside, ReadsNumber};
 ghost use Rattle.binary_grammar.specs.words.NumberReading.{GivesNumber, placed, digits_at, u32_at, s32_at, s64_at};
@@ -95,10 +96,10 @@ fn take_long_u32(bytes: &[u8]) -> Result<(u32, &[u8]), LebFault>
     }
 }
 
-// A number of one byte takes the short way.
+/// Takes an unsigned number of 32 bits from the front of the bytes, and answers it with those that are left. A number of one byte takes the short way.
 #[tactic(auto, unfolding(binary_grammar::specs::words::NumberReading::u32_at, binary_grammar::specs::words::NumberReading::digits_at))]
 #[inline(always)]
-pub(crate) fn take_u32(bytes: &[u8]) -> Result<(u32, &[u8]), LebFault>
+pub fn take_u32(bytes: &[u8]) -> Result<(u32, &[u8]), LebFault>
     ensures gives { GivesNumber (λ x. (x.0, x.1.now)) result (u32_at bytes.now) }
     ensures shorter { IfOk result (λ x. length x.1.now ≤ length bytes.now) }
 {
@@ -123,10 +124,10 @@ fn take_long_s32(bytes: &[u8]) -> Result<(i32, &[u8]), LebFault>
     }
 }
 
-// A number of one byte takes the short way.
+/// Takes a signed number of 32 bits from the front of the bytes, and answers it with those that are left. A number of one byte takes the short way.
 #[tactic(auto, unfolding(binary_grammar::specs::words::NumberReading::s32_at, binary_grammar::specs::words::NumberReading::digits_at))]
 #[inline(always)]
-pub(crate) fn take_s32(bytes: &[u8]) -> Result<(i32, &[u8]), LebFault>
+pub fn take_s32(bytes: &[u8]) -> Result<(i32, &[u8]), LebFault>
     ensures gives { GivesNumber (λ x. (x.0, x.1.now)) result (s32_at bytes.now) }
     ensures shorter { IfOk result (λ x. length x.1.now ≤ length bytes.now) }
 {
@@ -151,10 +152,10 @@ fn take_long_s64(bytes: &[u8]) -> Result<(i64, &[u8]), LebFault>
     }
 }
 
-// A number of one byte takes the short way.
+/// Takes a signed number of 64 bits from the front of the bytes, and answers it with those that are left. A number of one byte takes the short way.
 #[tactic(auto, unfolding(binary_grammar::specs::words::NumberReading::s64_at, binary_grammar::specs::words::NumberReading::digits_at))]
 #[inline(always)]
-pub(crate) fn take_s64(bytes: &[u8]) -> Result<(i64, &[u8]), LebFault>
+pub fn take_s64(bytes: &[u8]) -> Result<(i64, &[u8]), LebFault>
     ensures gives { GivesNumber (λ x. (x.0, x.1.now)) result (s64_at bytes.now) }
     ensures shorter { IfOk result (λ x. length x.1.now ≤ length bytes.now) }
 {

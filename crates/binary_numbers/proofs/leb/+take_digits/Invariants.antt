@@ -1,4 +1,4 @@
-use Rattle.wasm_binary.proofs.leb.+take_digits.Given as goal
+use Rattle.binary_numbers.proofs.leb.+take_digits.Given as goal
 
 abbrev pub decreases-take_digits : goal.decreases-take_digits
 decreases-take_digits l = l.most

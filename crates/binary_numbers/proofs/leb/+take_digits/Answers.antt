@@ -1,5 +1,5 @@
 use Rattle.std.proofs.Common.{ℕ, zero, suc, ◌^◌, ◌≤◌, lit≤, arith}
-use Rattle.wasm_binary.proofs.leb.+take_digits.Goals as goal
+use Rattle.binary_numbers.proofs.leb.+take_digits.Goals as goal
 
 -- nine digits leave room for one more
 below : (n : ℕ) → n ≤ 9 → 128 ^ n ≤ 2 ^ 63
