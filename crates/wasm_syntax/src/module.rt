@@ -116,8 +116,44 @@ pub struct Module {
     pub customs: List<Custom>,
 }
 
+impl Limits {
+    /// Limits that equal these. It takes no memory.
+    pub fn copy(&self, _alloc: alloc::Global) -> Result<Limits, OutOfMemory>
+        ensures { result ≡ Ok self.now }
+    {
+        Ok(*self)
+    }
+}
+
 impl Duplicate for Limits {
-    fn duplicate(&self, _alloc: alloc::Global) -> Result<Limits, OutOfMemory> {
+    fn duplicate(&self, alloc: alloc::Global) -> Result<Limits, OutOfMemory> {
+        self.copy(alloc)
+    }
+}
+
+impl GlobalType {
+    /// A type of a global that equals this one. It takes no memory.
+    pub fn copy(&self, _alloc: alloc::Global) -> Result<GlobalType, OutOfMemory>
+        ensures { result ≡ Ok self.now }
+    {
+        Ok(*self)
+    }
+}
+
+impl ImportKind {
+    /// A kind of an import that equals this one. It takes no memory.
+    pub fn copy(&self, _alloc: alloc::Global) -> Result<ImportKind, OutOfMemory>
+        ensures { result ≡ Ok self.now }
+    {
+        Ok(*self)
+    }
+}
+
+impl ExportKind {
+    /// A kind of an export that equals this one. It takes no memory.
+    pub fn copy(&self, _alloc: alloc::Global) -> Result<ExportKind, OutOfMemory>
+        ensures { result ≡ Ok self.now }
+    {
         Ok(*self)
     }
 }
