@@ -1,5 +1,5 @@
 pub mod Configuration
-pub mod Coding
+pub mod words
 pub mod Seen
 pub mod Readers
 pub mod Numeric

@@ -64,7 +64,7 @@ pub struct Config {
 impl Model for Config {
     ghost use Rattle.std.specs.Coded.{codes};
     ghost use Rattle.wasm_syntax.specs.contracts.instr.Instr as of_instr;
-    ghost use Rattle.wasm_store.specs.Coding.{sequence_code};
+    ghost use Rattle.wasm_store.specs.words.Coding.{sequence_code};
     ghost use Rattle.wasm_store.specs.Configuration.{Configuration};
 
     ghost Value = { Configuration };
