@@ -1,7 +1,7 @@
 // What an instruction that holds no others does to the operands, where its other needs are met.
 
-ghost use Rattle.std.specs.Prelude.{◌≡◌, [], ◌∷◌, ◌++◌, None, IfOk, IsTrue, ◌==◌, reverse, length};
-ghost use Rattle.wasm_values.specs.Operators.{operand_type, result_type, num_operands, is_test, type_of};
+ghost use Rattle.std.specs.Prelude.{◌≡◌, [], ◌∷◌, ◌++◌, None, IfOk, IsTrue, reverse, length};
+ghost use Rattle.wasm_values.specs.Operators.{operand_type, result_type};
 ghost use Rattle.wasm_syntax.specs.declared.instr.Instr.{Instr};
 ghost use Rattle.wasm_syntax.specs.Items.{instr_seen};
 ghost use Rattle.wasm_syntax.specs.Accesses.{loaded_type, stored_type};
@@ -14,7 +14,7 @@ use crate::needs::first_need;
 use crate::operands::Operands;
 use wasm_syntax::{Plain, Simple, loaded_type, stored_type};
 use wasm_typing::ValidWord;
-use wasm_values::{IntOp, NumOp, OutOfMemory, Val, ValType};
+use wasm_values::{NumOp, OutOfMemory, ValType};
 
 fn act_plain(
     operands: &mut Operands,
@@ -76,36 +76,15 @@ fn act_variable(
     }
 }
 
-/// Whether an operator takes one operand.
-fn is_unary(op: IntOp) -> bool
-    ensures { result ≡ (num_operands (NumOp.W32 op) == 1) }
-{
-    match op {
-        IntOp::Eqz | IntOp::Clz | IntOp::Ctz | IntOp::Popcnt => true,
-        _ => false,
-    }
-}
-
-/// Whether an operator is a test or a comparison.
-fn gives_truth(op: IntOp) -> bool
-    ensures { result ≡ is_test op }
-{
-    match op {
-        IntOp::Eqz | IntOp::Eq | IntOp::Ne | IntOp::LtS | IntOp::LtU | IntOp::GtS => true,
-        IntOp::GtU | IntOp::LeS | IntOp::LeU | IntOp::GeS | IntOp::GeU => true,
-        _ => false,
-    }
-}
-
 fn act_num(operands: &mut Operands, op: NumOp) -> Result<bool, OutOfMemory>
     ensures { IfOk result (λ went. Goes went (Are operands.old) (Are operands.new) (Turns (num_takes op) (result_type op ∷ []))) }
 {
     let (ty, is_one, gives) = match op {
-        NumOp::W32(op) => (ValType::I32, is_unary(op), ValType::I32),
+        NumOp::W32(op) => (ValType::I32, op.is_unary(), ValType::I32),
         NumOp::W64(op) => (
             ValType::I64,
-            is_unary(op),
-            if gives_truth(op) {
+            op.is_unary(),
+            if op.is_test() {
                 ValType::I32
             } else {
                 ValType::I64
@@ -118,15 +97,6 @@ fn act_num(operands: &mut Operands, op: NumOp) -> Result<bool, OutOfMemory>
         operands.turn(&[ty], &[gives])
     } else {
         operands.turn(&[ty, ty], &[gives])
-    }
-}
-
-fn type_of_value(value: Val) -> ValType
-    ensures { result ≡ type_of value }
-{
-    match value {
-        Val::I32(_) => ValType::I32,
-        Val::I64(_) => ValType::I64,
     }
 }
 
@@ -194,7 +164,7 @@ fn act(
     match instr {
         Simple::Plain(op) => act_plain(operands, names, labels, op),
         Simple::Num(op) => act_num(operands, op),
-        Simple::Const(value) => operands.turn(&[], &[type_of_value(value)]),
+        Simple::Const(value) => operands.turn(&[], &[value.ty()]),
         Simple::Load(op, _, _) => operands.turn(&[ValType::I32], &[loaded_type(op)]),
         Simple::Store(op, _, _) => operands.turn(&[ValType::I32, stored_type(op)], &[]),
         Simple::LocalGet(_) | Simple::LocalSet(_) | Simple::LocalTee(_) => act_variable(

@@ -15,7 +15,7 @@ returns-in-Num c =
 
 pub returns-in-Const : goal.returns-in-Const
 returns-in-Const c =
-    acts_as c.turn.result (Are c.args.operands.now) (Are c.turn.new.self) (Turns [] (c.type_of_value.result ∷ [])) (context_in c.args.names.now) (labels_in c.args.labels.now) (instr_seen c.args.instr) (source.Const c.in-Const.value) (ap instr_seen c.in-Const.is) (same_turns [] [] _ (type_of c.in-Const.value ∷ []) refl (ap (λ t. t ∷ []) c.type_of_value.ensures)) c.turn.ensures
+    acts_as c.turn.result (Are c.args.operands.now) (Are c.turn.new.self) (Turns [] (c.ty.result ∷ [])) (context_in c.args.names.now) (labels_in c.args.labels.now) (instr_seen c.args.instr) (source.Const c.in-Const.value) (ap instr_seen c.in-Const.is) (same_turns [] [] _ (type_of c.in-Const.value ∷ []) refl (ap (λ t. t ∷ []) c.ty.ensures)) c.turn.ensures
 
 pub returns-in-Load : goal.returns-in-Load
 returns-in-Load c =
