@@ -9,6 +9,7 @@ use Rattle.sexp_text.specs.declared.fault.TextFault.TheVariants.{Refused, Limit,
 use Rattle.sexp_text.specs.declared.fault.TextWord.{TextWord}
 use Rattle.sexp_text.specs.declared.fault.TextWord.TheVariants as word
 use Rattle.wasm_values.specs.declared.limit.LimitWord.TheVariants.{Nesting}
+use Rattle.wasm_values.specs.Answers as answers
 use Rattle.sexp_text.specs.declared.reader.Mode.{Mode}
 use Rattle.sexp_text.specs.declared.reader.Mode.TheVariants.{Between, Comment, Run, Quoted, Escape, Digit}
 use Rattle.sexp_text.specs.Bytes.{is_between, is_white, is_letter, is_digit, is_name_byte, is_sign, is_run, is_plain, is_hex, hex_value}
@@ -19,15 +20,18 @@ abbrev pub ◌>>=◌ : {A B : Type 0} → Result A TextFault → (A → Result B
 (Ok x) >>= f = f x
 (Err e) >>= f = Err e
 
+-- a fault that is no want of memory
+abbrev pub fault_of : TextFault → Option TextFault
+fault_of OutOfMemory = None
+fault_of (Refused at w) = Some (Refused at w)
+fault_of (Limit at w) = Some (Limit at w)
+
 -- what a call answered, seen by view, is what reading gives, unless memory ran out
 abbrev pub Fails : {Y : Type 0} → TextFault → Result Y TextFault → Type 0
-Fails OutOfMemory read = Unit {0}
-Fails (Refused at w) read = read ≡ Err (Refused at w)
-Fails (Limit at w) read = read ≡ Err (Limit at w)
+Fails fault read = answers.Fails fault_of fault read
 
 abbrev pub Gives : {X Y : Type 0} → (X → Y) → Result X TextFault → Result Y TextFault → Type 0
-Gives view (Ok x) read = read ≡ Ok (view x)
-Gives view (Err e) read = Fails e read
+Gives view result read = answers.Gives fault_of view result read
 
 abbrev pub refused : {A : Type 0} → ℕ → TextWord → Result A TextFault
 refused at w = Err (Refused at w)
