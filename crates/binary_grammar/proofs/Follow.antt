@@ -1,19 +1,16 @@
 -- In the flat form of instructions each item may follow those before it.
-use Rattle.std.proofs.Common.{◌≡◌, ℕ, suc, ◌+◌, ◌-◌, ◌<◌, Bool, true, false, List, [], ◌∷◌, ◌++◌, length, set, map, Option, Some, None, refl, sym, ap, subst, ◌∙◌, arith}
+use Rattle.std.proofs.Common.{◌≡◌, ℕ, suc, ◌+◌, ◌-◌, ◌<◌, Bool, true, false, List, [], ◌∷◌, ◌++◌, length, set, Option, Some, None, refl, sym, ap, subst, ◌∙◌, arith}
 use Rattle.std.proofs.lemmas.List.{length-append, length-set}
 use Rattle.wasm_values.specs.declared.number.ValType.{ValType}
-use Rattle.wasm_syntax.specs.declared.instr.Instr.{Instr, Plain, Num, Const, LocalGet, LocalSet, LocalTee, GlobalGet, GlobalSet, Load, Store, Br, BrIf, BrTable, Call, CallIndirect}
+use Rattle.wasm_syntax.specs.declared.instr.Instr.{Instr}
 use Rattle.wasm_syntax.specs.declared.instr.Instr.TheVariants as instr
-use Rattle.wasm_syntax.specs.declared.instr.Instr.TheOpen.{Instr-F}
-use Rattle.wasm_syntax.specs.declared.instr.Instr.TheOpen as layer
-use Rattle.wasm_syntax.specs.declared.instr.Instr.TheViews.{roll-Instr}
-use Rattle.wasm_syntax.specs.declared.instr.Instr.TheFolds.{map-Instr, ind-Instr}
 use Rattle.wasm_syntax.specs.declared.flat.Flat.{Flat}
 use Rattle.wasm_syntax.specs.declared.flat.Flat.TheVariants.{One, Block, Loop, If, Else, End}
 use Rattle.wasm_syntax.specs.declared.flat.Head.{Head}
 use Rattle.wasm_syntax.specs.declared.flat.Head.TheVariants as head
 use Rattle.wasm_syntax.specs.FlatForm.{is_simple, flat_of, flat}
 use Rattle.wasm_syntax.specs.Parts.{Part, begun, with_instr, turned, with_last, may_turn, part_turns, head_item, then_item, then_items, parts_of, StandFor}
+use Rattle.wasm_syntax.proofs.Induction.{Cases, of_instr, of_instrs}
 use Rattle.wasm_syntax.proofs.FlatLemmas.{flat_of-Block, flat_of-Loop, flat_of-If, flat_of-If_Else, flat_of-simple}
 use Rattle.wasm_syntax.proofs.PartLemmas.{some_marks, StandFor-put, StandFor-begin, StandFor-turn, StandFor-end}
 use Rattle.wasm_syntax.proofs.PartLaws.{with_instrs, then_items-flat_of, then_items-flat}
@@ -68,10 +65,6 @@ follows-cons i is a b ps h =
     follow-append ps (flat_of i) (flat is) (a ps h)
     (subst (λ qs. Follow qs (flat is)) (sym (then_items-flat_of i ps h)) (b (with_last (with_instr i) ps) (omega (arith, with_last-length (with_instr i) ps))))
 
-follows-all : (es : List ((i : Instr) × Follows i)) → FollowsAll (map (λ e. e.0) es)
-follows-all [] ps h = tt
-follows-all (e ∷ es) ps h = follows-cons e.0 (map (λ e. e.0) es) e.1 (follows-all es) ps h
-
 -- instructions of a part, and its `End`
 part-follows : (p : Part) (is : List Instr) → FollowsAll is → (ps : List Part) → 0 < length ps → Follow (ps ++ p ∷ []) (flat is ++ End ∷ [])
 part-follows p is a ps h =
@@ -100,35 +93,22 @@ follows-If_Else ty is others a b ps h =
     subst (λ qs. Follow qs (flat others ++ End ∷ [])) (sym there) (part-follows (turned (with_instrs is p)) others b ps h) in
     subst (Follow ps) (sym (flat_of-If_Else ty is others)) (tt, follow-append (ps ++ p ∷ []) (flat is) (Else ∷ (flat others ++ End ∷ [])) (a (ps ++ p ∷ []) some) (turns, after))
 
-follows-layer : (y : Instr-F ((i : Instr) × Follows i)) → Follows (roll-Instr (map-Instr ((i : Instr) × Follows i) Instr (λ e. e.0) y))
-follows-layer (layer.Plain op) = subst Follows (sym (instr.rolls-Plain op)) (follows-simple (Plain op) refl)
-follows-layer (layer.Num op) = subst Follows (sym (instr.rolls-Num op)) (follows-simple (Num op) refl)
-follows-layer (layer.Const value) = subst Follows (sym (instr.rolls-Const value)) (follows-simple (Const value) refl)
-follows-layer (layer.LocalGet x) = subst Follows (sym (instr.rolls-LocalGet x)) (follows-simple (LocalGet x) refl)
-follows-layer (layer.LocalSet x) = subst Follows (sym (instr.rolls-LocalSet x)) (follows-simple (LocalSet x) refl)
-follows-layer (layer.LocalTee x) = subst Follows (sym (instr.rolls-LocalTee x)) (follows-simple (LocalTee x) refl)
-follows-layer (layer.GlobalGet x) = subst Follows (sym (instr.rolls-GlobalGet x)) (follows-simple (GlobalGet x) refl)
-follows-layer (layer.GlobalSet x) = subst Follows (sym (instr.rolls-GlobalSet x)) (follows-simple (GlobalSet x) refl)
-follows-layer (layer.Load op a o) = subst Follows (sym (instr.rolls-Load op a o)) (follows-simple (Load op a o) refl)
-follows-layer (layer.Store op a o) = subst Follows (sym (instr.rolls-Store op a o)) (follows-simple (Store op a o) refl)
-follows-layer (layer.Block ty es) = subst Follows (sym (instr.rolls-Block ty (map (λ e. e.0) es))) (follows-Block ty (map (λ e. e.0) es) (follows-all es))
-follows-layer (layer.Loop ty es) = subst Follows (sym (instr.rolls-Loop ty (map (λ e. e.0) es))) (follows-Loop ty (map (λ e. e.0) es) (follows-all es))
-follows-layer (layer.If ty es None) = subst Follows (sym (instr.rolls-If ty (map (λ e. e.0) es) None)) (follows-If ty (map (λ e. e.0) es) (follows-all es))
-follows-layer (layer.If ty es (Some os)) =
-    subst Follows (sym (instr.rolls-If ty (map (λ e. e.0) es) (Some (map (λ e. e.0) os))))
-    (follows-If_Else ty (map (λ e. e.0) es) (map (λ e. e.0) os) (follows-all es) (follows-all os))
-follows-layer (layer.Br l) = subst Follows (sym (instr.rolls-Br l)) (follows-simple (Br l) refl)
-follows-layer (layer.BrIf l) = subst Follows (sym (instr.rolls-BrIf l)) (follows-simple (BrIf l) refl)
-follows-layer (layer.BrTable ls l) = subst Follows (sym (instr.rolls-BrTable ls l)) (follows-simple (BrTable ls l) refl)
-follows-layer (layer.Call f) = subst Follows (sym (instr.rolls-Call f)) (follows-simple (Call f) refl)
-follows-layer (layer.CallIndirect t) = subst Follows (sym (instr.rolls-CallIndirect t)) (follows-simple (CallIndirect t) refl)
+follows : Cases Follows FollowsAll
+follows = record {
+  simple = follows-simple;
+  block = follows-Block;
+  loop = follows-Loop;
+  one_side = follows-If;
+  two_sides = follows-If_Else;
+  none = λ ps h. tt;
+  more = follows-cons;
+}
 
 pub follow-flat_of : (i : Instr) → Follows i
-follow-flat_of = ind-Instr Follows (λ x y is. subst (λ z. Follows (roll-Instr z)) is (follows-layer y))
+follow-flat_of = of_instr Follows FollowsAll follows
 
 pub follow-flat : (is : List Instr) → FollowsAll is
-follow-flat [] ps h = tt
-follow-flat (i ∷ is) ps h = follows-cons i is (follow-flat_of i) (follow-flat is) ps h
+follow-flat = of_instrs Follows FollowsAll follows
 
 -- ---- marks of open parts
 

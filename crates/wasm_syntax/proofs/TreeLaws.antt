@@ -1,15 +1,13 @@
 -- The trees of instructions are one to one with them.
-use Rattle.std.proofs.Common.{◌≡◌, List, [], ◌∷◌, map, Option, Some, None, refl, sym, ap, ◌∙◌, subst}
+use Rattle.std.proofs.Common.{◌≡◌, true, List, [], ◌∷◌, Option, Some, None, refl, ap, ◌∙◌}
 use Rattle.wasm_values.specs.declared.number.ValType.{ValType}
-use Rattle.wasm_syntax.specs.declared.instr.Instr.{Instr, Row_of-Instr, end_of-Instr, more_of-Instr, items-the_row-Instr, items_hidden-the_row-Instr-0}
+use Rattle.wasm_syntax.specs.declared.instr.Instr.{Instr, Block', Loop', If', Row_of-Instr, end_of-Instr, more_of-Instr, items-the_row-Instr, items_hidden-the_row-Instr-0}
 use Rattle.wasm_syntax.specs.declared.instr.Instr.TheBlock.{hidden-the_row-Instr-0}
 use Rattle.wasm_syntax.specs.declared.instr.Instr.TheVariants as instr
-use Rattle.wasm_syntax.specs.declared.instr.Instr.TheOpen.{Instr-F}
-use Rattle.wasm_syntax.specs.declared.instr.Instr.TheOpen as layer
-use Rattle.wasm_syntax.specs.declared.instr.Instr.TheViews.{roll-Instr}
-use Rattle.wasm_syntax.specs.declared.instr.Instr.TheFolds.{map-Instr, ind-Instr}
 use Rattle.wasm_syntax.specs.Trees.{Sequence, Empty, Then, Block, Loop, If, IfElse, instruction_of, sequence_in, sequence_of, instr_from, instrs_from}
 use Rattle.wasm_syntax.specs.Trees as tree
+use Rattle.wasm_syntax.specs.FlatForm.{is_simple}
+use Rattle.wasm_syntax.proofs.Induction.{Cases, of_instr, of_instrs}
 
 sequence_in-items : {n : _} (r : Row_of-Instr n) → sequence_in r ≡ sequence_of (items-the_row-Instr n r)
 sequence_in-items end_of-Instr = refl
@@ -74,47 +72,31 @@ ReturnsAll is = instrs_from (sequence_of is) ≡ is
 returns_cons : (i : Instr) (is : List Instr) → Returns i → ReturnsAll is → ReturnsAll (i ∷ is)
 returns_cons i is e es = ap (λ j. j ∷ instrs_from (sequence_of is)) e ∙ ap (λ js. i ∷ js) es
 
-returns_all : (es : List ((i : Instr) × Returns i)) → ReturnsAll (map (λ e. e.0) es)
-returns_all [] = refl
-returns_all (e ∷ es) = returns_cons e.0 (map (λ e. e.0) es) e.1 (returns_all es)
+returns_simple : (i : Instr) → is_simple i ≡ true → Returns i
+returns_simple (Block' ty n body) e = cc
+returns_simple (Loop' ty n body) e = cc
+returns_simple (If' ty n first other) e = cc
+returns_simple _ e = refl
 
-returns_layer : (y : Instr-F ((i : Instr) × Returns i)) → Returns (roll-Instr (map-Instr ((i : Instr) × Returns i) Instr (λ e. e.0) y))
-returns_layer (layer.Plain op) = subst Returns (sym (instr.rolls-Plain op)) refl
-returns_layer (layer.Num op) = subst Returns (sym (instr.rolls-Num op)) refl
-returns_layer (layer.Const value) = subst Returns (sym (instr.rolls-Const value)) refl
-returns_layer (layer.LocalGet x) = subst Returns (sym (instr.rolls-LocalGet x)) refl
-returns_layer (layer.LocalSet x) = subst Returns (sym (instr.rolls-LocalSet x)) refl
-returns_layer (layer.LocalTee x) = subst Returns (sym (instr.rolls-LocalTee x)) refl
-returns_layer (layer.GlobalGet x) = subst Returns (sym (instr.rolls-GlobalGet x)) refl
-returns_layer (layer.GlobalSet x) = subst Returns (sym (instr.rolls-GlobalSet x)) refl
-returns_layer (layer.Load op a o) = subst Returns (sym (instr.rolls-Load op a o)) refl
-returns_layer (layer.Store op a o) = subst Returns (sym (instr.rolls-Store op a o)) refl
-returns_layer (layer.Block ty es) =
-    let is = map (λ e. e.0) es in
-    subst Returns (sym (instr.rolls-Block ty is)) (ap instr_from (instruction_of-Block ty is) ∙ ap (instr.Block ty) (returns_all es))
-returns_layer (layer.Loop ty es) =
-    let is = map (λ e. e.0) es in
-    subst Returns (sym (instr.rolls-Loop ty is)) (ap instr_from (instruction_of-Loop ty is) ∙ ap (instr.Loop ty) (returns_all es))
-returns_layer (layer.If ty es None) =
-    let is = map (λ e. e.0) es in
-    subst Returns (sym (instr.rolls-If ty is None)) (ap instr_from (instruction_of-If ty is) ∙ ap (λ js. instr.If ty js None) (returns_all es))
-returns_layer (layer.If ty es (Some os)) =
-    let is = map (λ e. e.0) es in
-    let others = map (λ e. e.0) os in
-    subst Returns (sym (instr.rolls-If ty is (Some others))) (
+returns_If_Else : (ty : Option ValType) (is others : List Instr) → ReturnsAll is → ReturnsAll others → Returns (instr.If ty is (Some others))
+returns_If_Else ty is others h k =
     ap instr_from (instruction_of-IfElse ty is others) ∙
-    ap (λ js. instr.If ty js (Some (instrs_from (sequence_of others)))) (returns_all es) ∙
-    ap (λ js. instr.If ty is (Some js)) (returns_all os)
-    )
-returns_layer (layer.Br l) = subst Returns (sym (instr.rolls-Br l)) refl
-returns_layer (layer.BrIf l) = subst Returns (sym (instr.rolls-BrIf l)) refl
-returns_layer (layer.BrTable ls l) = subst Returns (sym (instr.rolls-BrTable ls l)) refl
-returns_layer (layer.Call f) = subst Returns (sym (instr.rolls-Call f)) refl
-returns_layer (layer.CallIndirect t) = subst Returns (sym (instr.rolls-CallIndirect t)) refl
+    ap (λ js. instr.If ty js (Some (instrs_from (sequence_of others)))) h ∙
+    ap (λ js. instr.If ty is (Some js)) k
+
+returns : Cases Returns ReturnsAll
+returns = record {
+  simple = returns_simple;
+  block = λ ty is h. ap instr_from (instruction_of-Block ty is) ∙ ap (instr.Block ty) h;
+  loop = λ ty is h. ap instr_from (instruction_of-Loop ty is) ∙ ap (instr.Loop ty) h;
+  one_side = λ ty is h. ap instr_from (instruction_of-If ty is) ∙ ap (λ js. instr.If ty js None) h;
+  two_sides = returns_If_Else;
+  none = refl;
+  more = returns_cons;
+}
 
 pub instr_from-instruction_of : (i : Instr) → instr_from (instruction_of i) ≡ i
-instr_from-instruction_of = ind-Instr Returns (λ x y is. subst (λ z. Returns (roll-Instr z)) is (returns_layer y))
+instr_from-instruction_of = of_instr Returns ReturnsAll returns
 
 pub instrs_from-sequence_of : (is : List Instr) → instrs_from (sequence_of is) ≡ is
-instrs_from-sequence_of [] = refl
-instrs_from-sequence_of (i ∷ is) = returns_cons i is (instr_from-instruction_of i) (instrs_from-sequence_of is)
+instrs_from-sequence_of = of_instrs Returns ReturnsAll returns
