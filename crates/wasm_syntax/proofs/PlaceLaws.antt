@@ -2,7 +2,6 @@
 use Rattle.std.proofs.Common.{◌≡◌, ℕ, ◌+◌, true, List, [], ◌∷◌, ◌++◌, length, refl, sym, ap, ◌∙◌, arith}
 use Rattle.std.proofs.lemmas.List.{length-append}
 use Rattle.wasm_syntax.specs.declared.instr.Instr.{Instr}
-use Rattle.wasm_syntax.specs.declared.instr.Instr.TheVariants as instr
 use Rattle.wasm_syntax.specs.declared.flat.Flat.{Flat}
 use Rattle.wasm_syntax.specs.declared.flat.Flat.TheVariants.{Block, Loop, If, Else, End}
 use Rattle.wasm_syntax.specs.FlatForm.{is_simple, flat_of, flat}
@@ -31,21 +30,7 @@ mutual
   size_from (IfElse ty first second) =
       ap length (flat_of-If_Else ty (instrs_from first) (instrs_from second)) ∙
       sides_size (If ty) (flat (instrs_from first)) (flat (instrs_from second)) (size_of_all first) (size_of_all second) (size_from_all first) (size_from_all second)
-  size_from (tree.Plain op) = simple_size (instr.Plain op) refl
-  size_from (tree.Num op) = simple_size (instr.Num op) refl
-  size_from (tree.Const value) = simple_size (instr.Const value) refl
-  size_from (tree.LocalGet x) = simple_size (instr.LocalGet x) refl
-  size_from (tree.LocalSet x) = simple_size (instr.LocalSet x) refl
-  size_from (tree.LocalTee x) = simple_size (instr.LocalTee x) refl
-  size_from (tree.GlobalGet x) = simple_size (instr.GlobalGet x) refl
-  size_from (tree.GlobalSet x) = simple_size (instr.GlobalSet x) refl
-  size_from (tree.Load op align offset) = simple_size (instr.Load op align offset) refl
-  size_from (tree.Store op align offset) = simple_size (instr.Store op align offset) refl
-  size_from (tree.Br l) = simple_size (instr.Br l) refl
-  size_from (tree.BrIf l) = simple_size (instr.BrIf l) refl
-  size_from (tree.BrTable ls l) = simple_size (instr.BrTable ls l) refl
-  size_from (tree.Call f) = simple_size (instr.Call f) refl
-  size_from (tree.CallIndirect t) = simple_size (instr.CallIndirect t) refl
+  size_from i = simple_size (instr_from i) refl
 
   pub size_from_all : (s : Sequence) → length (flat (instrs_from s)) ≡ size_of_all s
   size_from_all Empty = refl

@@ -1,5 +1,5 @@
 -- The trees of instructions are one to one with them.
-use Rattle.std.proofs.Common.{◌≡◌, true, List, [], ◌∷◌, Option, Some, None, refl, ap, ◌∙◌}
+use Rattle.std.proofs.Common.{◌≡◌, true, List, ◌∷◌, Option, Some, None, refl, ap, ◌∙◌}
 use Rattle.wasm_values.specs.declared.number.ValType.{ValType}
 use Rattle.wasm_syntax.specs.declared.instr.Instr.{Instr, Block', Loop', If', Row_of-Instr, end_of-Instr, more_of-Instr, items-the_row-Instr, items_hidden-the_row-Instr-0}
 use Rattle.wasm_syntax.specs.declared.instr.Instr.TheBlock.{hidden-the_row-Instr-0}
@@ -33,16 +33,6 @@ instruction_of-IfElse ty is others =
 
 mutual
   pub instruction_of-instr_from : (t : tree.Instruction) → instruction_of (instr_from t) ≡ t
-  instruction_of-instr_from (tree.Plain op) = refl
-  instruction_of-instr_from (tree.Num op) = refl
-  instruction_of-instr_from (tree.Const value) = refl
-  instruction_of-instr_from (tree.LocalGet x) = refl
-  instruction_of-instr_from (tree.LocalSet x) = refl
-  instruction_of-instr_from (tree.LocalTee x) = refl
-  instruction_of-instr_from (tree.GlobalGet x) = refl
-  instruction_of-instr_from (tree.GlobalSet x) = refl
-  instruction_of-instr_from (tree.Load op align offset) = refl
-  instruction_of-instr_from (tree.Store op align offset) = refl
   instruction_of-instr_from (Block ty body) = instruction_of-Block ty (instrs_from body) ∙ ap (Block ty) (sequence_of-instrs_from body)
   instruction_of-instr_from (Loop ty body) = instruction_of-Loop ty (instrs_from body) ∙ ap (Loop ty) (sequence_of-instrs_from body)
   instruction_of-instr_from (If ty first) = instruction_of-If ty (instrs_from first) ∙ ap (If ty) (sequence_of-instrs_from first)
@@ -50,11 +40,7 @@ mutual
       instruction_of-IfElse ty (instrs_from first) (instrs_from second) ∙
       ap (λ s. IfElse ty s (sequence_of (instrs_from second))) (sequence_of-instrs_from first) ∙
       ap (IfElse ty first) (sequence_of-instrs_from second)
-  instruction_of-instr_from (tree.Br l) = refl
-  instruction_of-instr_from (tree.BrIf l) = refl
-  instruction_of-instr_from (tree.BrTable ls l) = refl
-  instruction_of-instr_from (tree.Call f) = refl
-  instruction_of-instr_from (tree.CallIndirect t) = refl
+  instruction_of-instr_from _ = refl
 
   pub sequence_of-instrs_from : (s : Sequence) → sequence_of (instrs_from s) ≡ s
   sequence_of-instrs_from Empty = refl

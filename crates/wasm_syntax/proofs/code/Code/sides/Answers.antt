@@ -1,4 +1,4 @@
-use Rattle.std.proofs.Common.{ℕ, ◌+◌, List, Option, Some, IsSomeAnd, IsTrue, MatchOption, refl, sym, ap, subst, ◌∙◌}
+use Rattle.std.proofs.Common.{ℕ, ◌+◌, List, Option, IsSomeAnd, IsTrue, MatchOption, refl, sym, ap, subst, ◌∙◌}
 use Rattle.wasm_syntax.specs.declared.flat.Flat.{Flat}
 use Rattle.wasm_syntax.specs.FlatForm.{flat_body}
 use Rattle.wasm_syntax.specs.Sides.{is_if, EndsAt, TurnsAt, HasNoElse}
