@@ -1,12 +1,13 @@
 -- Reading from the front of the bytes that are left of a region, item by item, with the first fault that is met.
 -- A reader takes the place where the region ends and the bytes that are left, and gives a value and what is left then.
-use Rattle.std.specs.Prelude.{◌≡◌, ℕ, zero, suc, ◌-◌, nat_lt, ◌==◌, if◌then◌else◌, List, [], ◌∷◌, length, take, drop, Result, Ok, Err}
+use Rattle.std.specs.Prelude.{◌≡◌, ℕ, zero, suc, ◌-◌, nat_lt, ◌==◌, if◌then◌else◌, List, [], ◌∷◌, length, take, drop, Option, Some, None, Result, Ok, Err}
 use Rattle.binary_grammar.specs.declared.fault.LebFault.{LebFault}
 use Rattle.binary_grammar.specs.declared.fault.LebFault.TheVariants as leb
 use Rattle.binary_grammar.specs.declared.fault.DecodeFault.{DecodeFault}
 use Rattle.binary_grammar.specs.declared.fault.DecodeFault.TheVariants.{Malformed, Limit, OutOfMemory}
 use Rattle.binary_grammar.specs.declared.fault.DecodeWord.TheVariants.{End, Size, Number, Utf8}
 use Rattle.wasm_values.specs.declared.limit.LimitWord.{LimitWord}
+use Rattle.wasm_values.specs.Answers as answers
 use Rattle.std.specs.Str.{is_utf8}
 use Rattle.binary_grammar.specs.words.NumberReading.{u32_at}
 
@@ -16,16 +17,19 @@ abbrev pub ◌>>=◌ : {A B : Type 0} → Result A DecodeFault → (A → Result
 (Ok x) >>= f = f x
 (Err e) >>= f = Err e
 
+-- A fault that is no want of memory.
+abbrev pub fault_of : DecodeFault → Option DecodeFault
+fault_of OutOfMemory = None
+fault_of (Malformed place word) = Some (Malformed place word)
+fault_of (Limit place word) = Some (Limit place word)
+
 -- A function failed as reading does, unless memory ran out.
 abbrev pub Fails : {Y : Type 0} → DecodeFault → Result Y DecodeFault → Type 0
-Fails OutOfMemory read = Unit {0}
-Fails (Malformed place word) read = read ≡ Err (Malformed place word)
-Fails (Limit place word) read = read ≡ Err (Limit place word)
+Fails fault read = answers.Fails fault_of fault read
 
 -- What a function returned, seen by view, is what reading gives, unless memory ran out.
 abbrev pub Gives : {X Y : Type 0} → (X → Y) → Result X DecodeFault → Result Y DecodeFault → Type 0
-Gives view (Ok x) read = read ≡ Ok (view x)
-Gives view (Err e) read = Fails e read
+Gives view result read = answers.Gives fault_of view result read
 
 -- How a value is read: from the place where a region ends and the bytes that are left, the value and what is left then, or
 -- a fault.
