@@ -5,6 +5,8 @@ use Rattle.std.proofs.lemmas.List.{length-append}
 use Rattle.wasm_values.specs.declared.number.ValType.{ValType}
 use Rattle.wasm_values.specs.declared.number.ValType.TheVariants.{I32, I64}
 use Rattle.wasm_values.specs.declared.number.Val.TheVariants as val
+use Rattle.wasm_values.specs.Types.{is_same_type}
+use Rattle.wasm_values.proofs.TypeLaws.{type-eq}
 use Rattle.wasm_syntax.specs.declared.module.Func.{Func}
 use Rattle.wasm_syntax.specs.declared.instr.Instr.{Instr, Plain, Num, Const, LocalGet, LocalSet, LocalTee, GlobalGet, GlobalSet, Load, Store, Block', Loop', If', Br, BrIf, BrTable, Call, CallIndirect}
 use Rattle.wasm_syntax.specs.declared.instr.Instr.TheVariants as instr
@@ -22,7 +24,7 @@ use Rattle.binary_grammar.specs.Grammar.{Spelling, Then, Done, SpellsNumber}
 use Rattle.binary_grammar.specs.CodeGrammar.{InstrOf, ItemOf, SpellsItem, SpellsExpression, SpellsInstrs, SpellsRun, locals_of, Runs, SpellsLocals, OfLength, Sized, SpellsBodyContents, SpellsBody}
 use Rattle.binary_grammar.proofs.Follow.{Follow, follow-flat}
 use Rattle.wasm_write.specs.Shortest.{number_text, signed_text}
-use Rattle.wasm_write.specs.Encoding.{vector_text, sized_text, value_type_text, block_type_code, opcode_of, immediates, item_text, expression_text, is_same_type, joined_to, runs_of, run_text, body_text, func_text}
+use Rattle.wasm_write.specs.Encoding.{vector_text, sized_text, value_type_text, block_type_code, opcode_of, immediates, item_text, expression_text, joined_to, runs_of, run_text, body_text, func_text}
 use Rattle.wasm_write.specs.Writable.{IsU32, IsCounted, InstrWritable, ItemWritable, CodeWritable, FuncWritable}
 use Rattle.wasm_write.proofs.NumberTexts.{spells_word32, spells_word64}
 use Rattle.wasm_write.proofs.TypeTexts.{then, then_done, the_byte, tagged, number, Spelled, each, list, value_type, block_type}
@@ -122,17 +124,11 @@ copies-add : (n k : ℕ) (t : ValType) (ls : List ValType) → copies (n + k) t 
 copies-add zero k t ls = ap (λ j. copies j t ++ ls) (let e : 0 + k ≡ k = omega arith in e)
 copies-add (suc n) k t ls = ap (λ j. copies j t ++ ls) (let e : suc n + k ≡ suc (n + k) = omega arith in e) ∙ ap (λ ts. t ∷ ts) (copies-add n k t ls)
 
-same_types : (t u : ValType) → is_same_type t u ≡ true → t ≡ u
-same_types I32 I32 e = refl
-same_types I64 I64 e = refl
-same_types I32 I64 e = absurd cc
-same_types I64 I32 e = absurd cc
-
 joins : (n : ℕ) (t : ValType) (rs : List (ℕ × ValType)) → locals_of (joined_to n t rs) ≡ copies n t ++ locals_of rs
 joins n t [] = refl
 joins n t (r ∷ rs) =
     elim (is_same_type t r.1) as (λ b. is_same_type t r.1 ≡ b → locals_of (cond b ((n + r.0, t) ∷ rs) ((n, t) ∷ r ∷ rs)) ≡ copies n t ++ (copies r.0 r.1 ++ locals_of rs)) [
-      | true ↦ λ e. copies-add n r.0 t (locals_of rs) ∙ ap (λ u. copies n t ++ (copies r.0 u ++ locals_of rs)) (same_types t r.1 e)
+      | true ↦ λ e. copies-add n r.0 t (locals_of rs) ∙ ap (λ u. copies n t ++ (copies r.0 u ++ locals_of rs)) (type-eq t r.1 e)
       | false ↦ λ e. refl
     ] refl
 

@@ -6,11 +6,13 @@ use Rattle.std.proofs.lemmas.Bool.{ltb-true, ltb-false, lt-ltb, le-ltb}
 use Rattle.std.proofs.Math.Nat.{pow-succ'}
 use Rattle.wasm_values.specs.declared.number.ValType.{ValType}
 use Rattle.wasm_values.specs.declared.number.ValType.TheVariants.{I32, I64}
+use Rattle.wasm_values.specs.Types.{is_same_type}
+use Rattle.wasm_values.proofs.TypeLaws.{type-refl}
 use Rattle.binary_grammar.specs.Bounds.{copies}
 use Rattle.binary_grammar.specs.Numbers.{AreDigits, base_128, twos_complement, SpellsU32}
 use Rattle.binary_grammar.specs.CodeGrammar.{locals_of, SpellsWord32, SpellsWord64}
 use Rattle.wasm_write.specs.Shortest.{digits, number_text, signed_text}
-use Rattle.wasm_write.specs.Encoding.{is_same_type, joined_to, runs_of}
+use Rattle.wasm_write.specs.Encoding.{joined_to, runs_of}
 use Rattle.wasm_write.proofs.NumberTexts.{digits-are, half, seven}
 use Rattle.wasm_write.proofs.CodeTexts.{few_joined}
 
@@ -98,16 +100,12 @@ shortest_word64 at text n h =
 
 -- ---- runs of locals
 
-same_type : (t : ValType) → is_same_type t t ≡ true
-same_type I32 = refl
-same_type I64 = refl
-
 one_more : (n : ℕ) (t : ValType) (rs : List (ℕ × ValType)) → joined_to 1 t (joined_to n t rs) ≡ joined_to (suc n) t rs
-one_more n t [] = rw (same_type t) (ap (λ k. (k, t) ∷ []) (let e : 1 + n ≡ suc n = omega arith in e))
+one_more n t [] = rw (type-refl t) (ap (λ k. (k, t) ∷ []) (let e : 1 + n ≡ suc n = omega arith in e))
 one_more n t (r ∷ rs) =
     elim (is_same_type t r.1) as (λ b. joined_to 1 t (cond b ((n + r.0, t) ∷ rs) ((n, t) ∷ r ∷ rs)) ≡ cond b ((suc n + r.0, t) ∷ rs) ((suc n, t) ∷ r ∷ rs)) [
-      | true ↦ rw (same_type t) (ap (λ k. (k, t) ∷ rs) (let e : 1 + (n + r.0) ≡ suc n + r.0 = omega arith in e))
-      | false ↦ rw (same_type t) (ap (λ k. (k, t) ∷ r ∷ rs) (let e : 1 + n ≡ suc n = omega arith in e))
+      | true ↦ rw (type-refl t) (ap (λ k. (k, t) ∷ rs) (let e : 1 + (n + r.0) ≡ suc n + r.0 = omega arith in e))
+      | false ↦ rw (type-refl t) (ap (λ k. (k, t) ∷ r ∷ rs) (let e : 1 + n ≡ suc n = omega arith in e))
     ]
 
 runs-copies : (n : ℕ) (t : ValType) (ls : List ValType) → runs_of (copies (suc n) t ++ ls) ≡ joined_to (suc n) t (runs_of ls)

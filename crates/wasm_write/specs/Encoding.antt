@@ -5,6 +5,7 @@ use Rattle.wasm_values.specs.declared.number.ValType.{ValType}
 use Rattle.wasm_values.specs.declared.number.ValType.TheVariants.{I32, I64}
 use Rattle.wasm_values.specs.declared.number.Val.{Val}
 use Rattle.wasm_values.specs.declared.number.Val.TheVariants as val
+use Rattle.wasm_values.specs.Types.{is_same_type}
 use Rattle.wasm_syntax.specs.declared.module.FuncType.{FuncType}
 use Rattle.wasm_syntax.specs.declared.module.Limits.{Limits}
 use Rattle.wasm_syntax.specs.declared.module.GlobalType.{GlobalType}
@@ -186,13 +187,6 @@ items_text = flat_map item_text
 -- An expression: its items one after another, with its last end (5.4.6).
 abbrev pub expression_text : List Instr → List ℕ
 expression_text is = items_text (flat_body is)
-
--- Whether two value types are the same.
-abbrev pub is_same_type : ValType → ValType → Bool
-is_same_type I32 I32 = true
-is_same_type I64 I64 = true
-is_same_type I32 I64 = false
-is_same_type I64 I32 = false
 
 -- Locals of one type before runs of equal ones join the first of these where that has their type (5.5.13).
 abbrev pub joined_to : ℕ → ValType → List (ℕ × ValType) → List (ℕ × ValType)

@@ -1,24 +1,15 @@
 ghost use Rattle.std.specs.Prelude.{◌≡◌, ◌++◌, IfOk, OnOk};
-ghost use Rattle.wasm_write.specs.Encoding.{is_same_type, runs_of, run_text, body_text, func_text};
+ghost use Rattle.wasm_write.specs.Encoding.{runs_of, run_text, body_text, func_text};
 
 use crate::entry::{Entry, value_type_code, write_vector};
 use crate::instrs::write_code;
 use crate::number::{write_number, write_sized};
 use std::alloc::Global;
 use wasm_syntax::Func;
-use wasm_values::{Bytes, List, OutOfMemory, ValType};
+use wasm_values::{Bytes, List, OutOfMemory, ValType, is_same_type};
 
 /// A run of equal locals.
 type Run = (usize, ValType);
-
-fn is_same_type(a: ValType, b: ValType) -> bool
-    ensures { result ≡ is_same_type a b }
-{
-    match (a, b) {
-        (ValType::I32, ValType::I32) | (ValType::I64, ValType::I64) => true,
-        (ValType::I32, ValType::I64) | (ValType::I64, ValType::I32) => false,
-    }
-}
 
 /// The longest runs of equal locals.
 fn runs_of(alloc: Global, locals: &[ValType]) -> Result<List<Run>, OutOfMemory>
