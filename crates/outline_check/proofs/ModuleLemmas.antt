@@ -19,7 +19,7 @@ use Rattle.outline_check.specs.declared.notes.Note.{Note}
 use Rattle.outline_check.specs.declared.notes.FuncNotes.{FuncNotes}
 use Rattle.outline_check.specs.declared.notes.Notes.{Notes}
 use Rattle.outline_check.specs.declared.stop.Refusal.{Refusal}
-use Rattle.outline_check.specs.declared.stop.Stop.{Stop}
+use Rattle.wasm_values.specs.declared.error.OrMemory.{OrMemory}
 use Rattle.outline_check.specs.First.{IsFirstBody, IsFirstFunc, HasPlaceEach}
 use Rattle.outline_check.specs.Refusals.{and_then, IsSaid}
 use Rattle.outline_check.specs.Outlines.{rise_within, instructions, body_fits, notes_fit, notes_of, function_outline, functions_from}
@@ -136,7 +136,7 @@ functions-next globals notes code funcs f func formulas own places n =
     rw (drop-get funcs f func n.get, n.own_notes, n.own_places, n.invariant) refl
 
 pub functions-refused : (globals : ℕ) (notes : Notes) (code : List (List ℕ)) (funcs : List Func) (f : ℕ) (func : Func) (formulas : List Formula) (own : List Note) (places : List ℕ) →
-    IsNext notes code funcs f func formulas own places → (why : Stop Refusal) (whole : Result (Unit {0}) Refusal) →
+    IsNext notes code funcs f func formulas own places → (why : OrMemory Refusal) (whole : Result (Unit {0}) Refusal) →
     functions_from globals notes code f (drop f funcs) ≡ whole →
     IsSaid {A = Unit {0}} {W = Refusal} (Err why) (function_outline formulas f own places globals func.body) → IsSaid {A = Unit {0}} {W = Refusal} (Err why) whole
 functions-refused globals notes code funcs f func formulas own places n why whole e said =

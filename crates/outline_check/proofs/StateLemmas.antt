@@ -3,8 +3,8 @@ use Rattle.std.proofs.Common.{◌≡◌, ℕ, zero, suc, ◌+◌, ◌-◌, ◌<�
 use Rattle.std.proofs.lemmas.Grind.{common_steps}
 use Rattle.outline_check.specs.declared.state.State.{State}
 use Rattle.outline_check.specs.declared.stop.Why.{Why}
-use Rattle.outline_check.specs.declared.stop.Stop.{Stop}
-use Rattle.outline_check.specs.declared.stop.Stop.TheVariants as stop
+use Rattle.wasm_values.specs.declared.error.OrMemory.{OrMemory}
+use Rattle.wasm_values.specs.declared.error.OrMemory.TheVariants as stop
 use Rattle.outline_check.specs.Refusals.{IsSaid}
 use Rattle.outline_check.specs.States.{made, with_global, with_globals}
 
@@ -25,9 +25,9 @@ refused_by k m why h e =
     subst (λ n. with_globals n ≡ Err why) sum (globals_refused k (m - k) why e)
 
 -- where one more global is refused, so are all
-pub with_globals-refused : (k m : ℕ) (s : State) (why : Stop Why) → with_globals k ≡ Ok s → k < m →
+pub with_globals-refused : (k m : ℕ) (s : State) (why : OrMemory Why) → with_globals k ≡ Ok s → k < m →
     IsSaid {A = State} {W = Why} (Err why) (made (with_global s)) → IsSaid {A = State} {W = Why} (Err why) (with_globals m)
-with_globals-refused k m s (stop.Refused reason) e h said = refused_by (k + 1) m _ (omega arith) (next_global k s e ∙ said)
+with_globals-refused k m s (stop.Fault reason) e h said = refused_by (k + 1) m _ (omega arith) (next_global k s e ∙ said)
 with_globals-refused k m s stop.OutOfMemory e h said = tt
 
 pub with_globals-next : (k : ℕ) (s t : State) → with_globals k ≡ Ok s → made (with_global s) ≡ Ok t → with_globals (k + 1) ≡ Ok t

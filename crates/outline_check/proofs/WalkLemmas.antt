@@ -8,8 +8,8 @@ use Rattle.wasm_syntax.specs.declared.flat.Flat.{Flat}
 use Rattle.wasm_syntax.specs.declared.flat.Flat.TheVariants.{One}
 use Rattle.wasm_syntax.specs.FlatForm.{is_simple, flat, flat_body}
 use Rattle.wasm_syntax.proofs.FlatLemmas.{flat_of-simple}
-use Rattle.outline_check.specs.declared.stop.Stop.{Stop}
-use Rattle.outline_check.specs.declared.stop.Stop.TheVariants as stop
+use Rattle.wasm_values.specs.declared.error.OrMemory.{OrMemory}
+use Rattle.wasm_values.specs.declared.error.OrMemory.TheVariants as stop
 use Rattle.outline_check.specs.declared.stop.Refusal.{Refusal}
 use Rattle.outline_check.specs.declared.stop.Why.{Why}
 use Rattle.outline_check.specs.Refusals.{and_then, placed, stops_at, IsSaid}
@@ -21,16 +21,16 @@ use Rattle.outline_check.specs.Outlines.{rise_within, note_at, ended, run_from}
 use Rattle.outline_check.specs.Cursors.{numbered, IsCursor}
 
 -- a place on both sides
-pub placed-said : {A : Type 0} (at : ℕ) (function : Option ℕ) (r : Result A (Stop Why)) (said : Result A Why) → IsSaid r said →
+pub placed-said : {A : Type 0} (at : ℕ) (function : Option ℕ) (r : Result A (OrMemory Why)) (said : Result A Why) → IsSaid r said →
     IsSaid (stops_at at function r) (placed at function said)
 placed-said at function (Ok a) said h = ap (placed at function) h
-placed-said at function (Err (stop.Refused reason)) said h = ap (placed at function) h
+placed-said at function (Err (stop.Fault reason)) said h = ap (placed at function) h
 placed-said at function (Err stop.OutOfMemory) said h = tt
 
 -- a refusal is that of all that follows
-pub refused-first : {A B : Type 0} (why : Stop Refusal) (first : Result A Refusal) (next : A → Result B Refusal) →
+pub refused-first : {A B : Type 0} (why : OrMemory Refusal) (first : Result A Refusal) (next : A → Result B Refusal) →
     IsSaid {A = A} {W = Refusal} (Err why) first → IsSaid {A = B} {W = Refusal} (Err why) (and_then first next)
-refused-first (stop.Refused refusal) first next h = ap (λ r. and_then r next) h
+refused-first (stop.Fault refusal) first next h = ap (λ r. and_then r next) h
 refused-first stop.OutOfMemory first next h = tt
 
 -- simple instructions are one item each
@@ -92,7 +92,7 @@ no_other_item is i item h within e other =
 
 -- the end of a body
 pub run-end : (invariant : List Formula) (function : ℕ) (notes : List Note) (places : List ℕ) (body : List Instr) (s : State) (i last : ℕ)
-    (given : Option Note) (r : Result (Unit {0}) (Stop Why)) (placed_r : Result (Unit {0}) (Stop Refusal)) (whole : Result (Unit {0}) Refusal) →
+    (given : Option Note) (r : Result (Unit {0}) (OrMemory Why)) (placed_r : Result (Unit {0}) (OrMemory Refusal)) (whole : Result (Unit {0}) Refusal) →
     i ≡ last → length body ≤ i → given ≡ note_at notes last → IsSaid r (ended invariant given s) →
     placed_r ≡ stops_at (slice_index places last) (Some function) r →
     run_from invariant function notes places i (drop i body) s ≡ whole → IsSaid placed_r whole

@@ -5,12 +5,13 @@ use Rattle.outline_check.specs.declared.answer.Answer.TheVariants as answer
 use Rattle.outline_check.specs.declared.answer.CheckFault.{CheckFault}
 use Rattle.outline_check.specs.declared.answer.CheckFault.TheVariants as fault
 use Rattle.wasm_values.specs.declared.limit.LimitWord.{LimitWord}
+use Rattle.wasm_values.specs.Answers as answers
 use Rattle.outline_check.specs.declared.answer.Reason.{Reason}
 use Rattle.outline_check.specs.declared.stop.Why.{Why}
 use Rattle.outline_check.specs.declared.stop.Why.TheVariants as why
 use Rattle.outline_check.specs.declared.stop.Refusal.{Refusal}
-use Rattle.outline_check.specs.declared.stop.Stop.{Stop}
-use Rattle.outline_check.specs.declared.stop.Stop.TheVariants as stop
+use Rattle.wasm_values.specs.declared.error.OrMemory.{OrMemory}
+use Rattle.wasm_values.specs.declared.error.OrMemory.TheVariants as stop
 
 -- What the outline of a module is: verified, failed at a place (in a function, where one is meant) for a reason, or past
 -- a limit at a place.
@@ -49,16 +50,12 @@ answered (Ok _) = Verified
 answered (Err refusal) = failed refusal
 
 -- A result is as the definition says, or want of memory.
-abbrev pub IsSaid : {A W : Type 0} → Result A (Stop W) → Result A W → Type 0
-IsSaid (Ok a) said = said ≡ Ok a
-IsSaid (Err (stop.Refused reason)) said = said ≡ Err reason
-IsSaid (Err stop.OutOfMemory) said = Unit {0}
+abbrev pub IsSaid : {A W : Type 0} → Result A (OrMemory W) → Result A W → Type 0
+IsSaid result said = answers.Gives answers.fault_of (λ a. a) result said
 
 -- A result isn't want of memory.
-abbrev pub HasMemory : {A W : Type 0} → Result A (Stop W) → Type 0
-HasMemory (Ok a) = Unit {0}
-HasMemory (Err (stop.Refused reason)) = Unit {0}
-HasMemory (Err stop.OutOfMemory) = ⊥
+abbrev pub HasMemory : {A W : Type 0} → Result A (OrMemory W) → Type 0
+HasMemory result = answers.HasMemory answers.fault_of result
 
 -- An answer is the outline that is said, or want of memory.
 abbrev pub IsAnswer : Result Answer CheckFault → Outline → Type 0
@@ -68,7 +65,7 @@ IsAnswer (Err (fault.Limit at word)) said = said ≡ Limit at word
 IsAnswer (Err fault.OutOfMemory) said = Unit {0}
 
 -- A result with its place; want of memory has none.
-abbrev pub stops_at : {A : Type 0} → ℕ → Option ℕ → Result A (Stop Why) → Result A (Stop Refusal)
+abbrev pub stops_at : {A : Type 0} → ℕ → Option ℕ → Result A (OrMemory Why) → Result A (OrMemory Refusal)
 stops_at at function (Ok a) = Ok a
-stops_at at function (Err (stop.Refused reason)) = Err (stop.Refused (record { at = at; function = function; why = reason }))
+stops_at at function (Err (stop.Fault reason)) = Err (stop.Fault (record { at = at; function = function; why = reason }))
 stops_at at function (Err stop.OutOfMemory) = Err stop.OutOfMemory

@@ -13,12 +13,12 @@ use crate::effect::initial_state;
 use crate::moves::{are_in_scope, entailed, moved};
 use crate::notes::{Formula, FuncNotes, Note, Notes};
 use crate::place::{answered, placed};
-use crate::stop::{Refusal, Stop, Why};
+use crate::stop::{Refusal, Why};
 use crate::walk::check_function;
 use std::alloc::Global;
 use wasm_syntax::{Func, Marks, Module};
 use wasm_validate::ValidModule;
-use wasm_values::List;
+use wasm_values::{List, OrMemory};
 
 fn numbers_rise(notes: &[Note], high: usize) -> bool
     ensures { result ≡ rise_within 0 high (map (λ note. note.at) notes.now) }
@@ -78,14 +78,14 @@ fn notes_fit(funcs: &[Func], notes: &[FuncNotes]) -> bool
     functions_rise(notes, funcs.len()) && bodies_fit(funcs, notes)
 }
 
-fn test_for(reason: Reason, met: bool) -> Result<(), Stop<Why>>
+fn test_for(reason: Reason, met: bool) -> Result<(), OrMemory<Why>>
     ensures said { IsSaid result (test_for reason met) }
     ensures memory { HasMemory result }
 {
     if met {
         Ok(())
     } else {
-        Err(Stop::Refused(Why::Reason(reason)))
+        Err(OrMemory::Fault(Why::Reason(reason)))
     }
 }
 
@@ -111,7 +111,7 @@ fn check_functions(
     globals: usize,
     notes: &Notes,
     code: &[List<usize>],
-) -> Result<(), Stop<Refusal>>
+) -> Result<(), OrMemory<Refusal>>
     requires first { AreSimple funcs.now }
     requires few { length funcs.now < 2 ^ 32 }
     requires marked { AllZip HasPlaceEach funcs.now code.now }
@@ -131,7 +131,7 @@ fn check_functions(
 }
 
 /// The initial state meets the invariant.
-fn check_initial(alloc: Global, m: &Module, notes: &Notes) -> Result<(), Stop<Why>>
+fn check_initial(alloc: Global, m: &Module, notes: &Notes) -> Result<(), OrMemory<Why>>
     ensures { IsSaid result (initial_outline m.now notes.now) }
 {
     let state = initial_state(alloc, m.globals.as_slice())?;
@@ -140,7 +140,12 @@ fn check_initial(alloc: Global, m: &Module, notes: &Notes) -> Result<(), Stop<Wh
     entailed(formulas, notes.initial.with.facts.as_slice(), &state)
 }
 
-fn check_all(alloc: Global, m: &Module, notes: &Notes, marks: &Marks) -> Result<(), Stop<Refusal>>
+fn check_all(
+    alloc: Global,
+    m: &Module,
+    notes: &Notes,
+    marks: &Marks,
+) -> Result<(), OrMemory<Refusal>>
     requires first { IsFirst m.now }
     requires marked { Marked m.now marks.now }
     ensures { IsSaid result (module_outline m.now marks.now notes.now) }

@@ -6,10 +6,10 @@ ghost use Rattle.outline_check.specs.States.{made, with_fact, with_global, with_
 use crate::derivation::{fact_of, term_at};
 use crate::notes::Formula;
 use crate::state::{Fact, Stack, State, Term};
-use crate::stop::{Stop, Why};
+use crate::stop::Why;
 use std::alloc;
 use wasm_syntax::{Global, Instr, Plain, Simple};
-use wasm_values::{LimitWord, List, Val};
+use wasm_values::{LimitWord, List, OrMemory, Val};
 
 const MAX_VARIABLES: u32 = 1_000_000;
 
@@ -19,7 +19,7 @@ const MAX_NODES: usize = 1_000_000;
 
 /// The state, if it is within the limits.
 #[tactic(auto, unfolding(crate::specs::States::made))]
-fn made(state: State) -> Result<State, Stop<Why>>
+fn made(state: State) -> Result<State, OrMemory<Why>>
     ensures said { IsSaid result (made state) }
     ensures memory { HasMemory result }
 {
@@ -27,21 +27,21 @@ fn made(state: State) -> Result<State, Stop<Why>>
     let globals = state.globals.len();
     let operands = state.operands.len();
     if state.variables > MAX_VARIABLES {
-        Err(Stop::Refused(Why::Limit(LimitWord::Variables)))
+        Err(OrMemory::Fault(Why::Limit(LimitWord::Variables)))
     } else if facts > MAX_FACTS {
-        Err(Stop::Refused(Why::Limit(LimitWord::Facts)))
+        Err(OrMemory::Fault(Why::Limit(LimitWord::Facts)))
     } else if globals > MAX_NODES
         || operands > MAX_NODES
         || 3 * facts + (globals + operands) > MAX_NODES
     {
-        Err(Stop::Refused(Why::Limit(LimitWord::State)))
+        Err(OrMemory::Fault(Why::Limit(LimitWord::State)))
     } else {
         Ok(state)
     }
 }
 
 /// One more fact.
-pub fn with_fact(fact: Fact, mut state: State) -> Result<State, Stop<Why>>
+pub fn with_fact(fact: Fact, mut state: State) -> Result<State, OrMemory<Why>>
     ensures { IsSaid result (made (with_fact fact state)) }
 {
     state.facts.push(fact)?;
@@ -49,7 +49,7 @@ pub fn with_fact(fact: Fact, mut state: State) -> Result<State, Stop<Why>>
 }
 
 /// One more global, whose term is a fresh variable with the facts of an i32.
-fn with_global(mut state: State) -> Result<State, Stop<Why>>
+fn with_global(mut state: State) -> Result<State, OrMemory<Why>>
     requires { state.variables < 4294967295 }
     ensures { IsSaid result (made (with_global state)) }
 {
@@ -74,7 +74,7 @@ fn nothing(alloc: alloc::Global) -> State
     }
 }
 
-fn with_globals(alloc: alloc::Global, globals: usize) -> Result<State, Stop<Why>>
+fn with_globals(alloc: alloc::Global, globals: usize) -> Result<State, OrMemory<Why>>
     ensures { IsSaid result (with_globals globals) }
 {
     let mut state = nothing(alloc);
@@ -84,7 +84,7 @@ fn with_globals(alloc: alloc::Global, globals: usize) -> Result<State, Stop<Why>
     Ok(state)
 }
 
-fn assumed(formulas: &[Formula], mut state: State) -> Result<State, Stop<Why>>
+fn assumed(formulas: &[Formula], mut state: State) -> Result<State, OrMemory<Why>>
     ensures { IsSaid result (assumed formulas.now state) }
 {
     for formula in formulas {
@@ -99,7 +99,7 @@ pub fn entered(
     alloc: alloc::Global,
     globals: usize,
     invariant: &[Formula],
-) -> Result<State, Stop<Why>>
+) -> Result<State, OrMemory<Why>>
     ensures { IsSaid result (entered globals invariant.now) }
 {
     let state = with_globals(alloc, globals)?;
@@ -116,7 +116,7 @@ fn initial_term(init: &[Instr]) -> Term
 }
 
 /// The initial state: each global is its number.
-pub fn initial_state(alloc: alloc::Global, globals: &[Global]) -> Result<State, Stop<Why>>
+pub fn initial_state(alloc: alloc::Global, globals: &[Global]) -> Result<State, OrMemory<Why>>
     ensures { IsSaid result (initial_state globals.now) }
 {
     let mut terms = List::new(alloc);
@@ -131,7 +131,7 @@ pub fn initial_state(alloc: alloc::Global, globals: &[Global]) -> Result<State, 
     })
 }
 
-fn pushed(term: Term, mut state: State) -> Result<State, Stop<Why>>
+fn pushed(term: Term, mut state: State) -> Result<State, OrMemory<Why>>
     ensures { IsSaid result (made (record state { operands = term ∷ state.operands })) }
 {
     state.operands.push(term)?;
@@ -151,7 +151,7 @@ fn with_set(k: u32, mut state: State) -> State
 }
 
 /// What an instruction does.
-pub fn after(instr: Simple<'_>, mut state: State) -> Result<State, Stop<Why>>
+pub fn after(instr: Simple<'_>, mut state: State) -> Result<State, OrMemory<Why>>
     ensures { IsSaid result (after (instr_seen instr.entry) state) }
 {
     match instr {

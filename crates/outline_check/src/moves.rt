@@ -10,9 +10,10 @@ use crate::derivation::{fact_of, first_bad, is_at};
 use crate::effect::{after, with_fact};
 use crate::notes::{Formula, Move, Note, Step, Use};
 use crate::state::State;
-use crate::stop::{Stop, Why};
+use crate::stop::Why;
 use std::alloc::Global;
 use wasm_syntax::Simple;
+use wasm_values::OrMemory;
 
 fn in_scope(globals: usize, formula: Formula) -> bool
     ensures { result ≡ in_scope globals formula }
@@ -34,22 +35,27 @@ fn are_steps_in_scope(globals: usize, steps: &[Step]) -> bool
 }
 
 /// The move `have`.
-fn had(alloc: Global, formula: Formula, steps: &[Step], state: State) -> Result<State, Stop<Why>>
+fn had(
+    alloc: Global,
+    formula: Formula,
+    steps: &[Step],
+    state: State,
+) -> Result<State, OrMemory<Why>>
     ensures { IsSaid result (had formula steps.now state) }
 {
     let globals = state.globals.as_slice();
     if !(in_scope(globals.len(), formula) && are_steps_in_scope(globals.len(), steps)) {
-        return Err(Stop::Refused(Why::Reason(Reason::Scope)));
+        return Err(OrMemory::Fault(Why::Reason(Reason::Scope)));
     }
     let goal = fact_of(globals, formula);
     match first_bad(alloc, globals, state.facts.as_slice(), goal, steps)? {
-        Some(k) => Err(Stop::Refused(Why::Reason(Reason::Derivation(k)))),
+        Some(k) => Err(OrMemory::Fault(Why::Reason(Reason::Derivation(k)))),
         None => with_fact(goal, state),
     }
 }
 
 /// The state after moves.
-pub fn moved(alloc: Global, moves: &[Move], mut state: State) -> Result<State, Stop<Why>>
+pub fn moved(alloc: Global, moves: &[Move], mut state: State) -> Result<State, OrMemory<Why>>
     ensures { IsSaid result (moved moves.now state) }
 {
     for step in moves {
@@ -73,14 +79,14 @@ fn are_facts(state: &State, numbers: &[u32], formulas: &[Formula]) -> bool
 }
 
 /// Whether the state entails the formulas by the facts of these numbers.
-pub fn entailed(formulas: &[Formula], numbers: &[u32], state: &State) -> Result<(), Stop<Why>>
+pub fn entailed(formulas: &[Formula], numbers: &[u32], state: &State) -> Result<(), OrMemory<Why>>
     ensures said { IsSaid result (entailed formulas.now numbers.now state.now) }
     ensures memory { HasMemory result }
 {
     if numbers.len() != formulas.len() {
-        Err(Stop::Refused(Why::Reason(Reason::Use)))
+        Err(OrMemory::Fault(Why::Reason(Reason::Use)))
     } else if !are_facts(state, numbers, formulas) {
-        Err(Stop::Refused(Why::Reason(Reason::Fact)))
+        Err(OrMemory::Fault(Why::Reason(Reason::Fact)))
     } else {
         Ok(())
     }
@@ -101,7 +107,7 @@ pub fn stepped(
     note: Option<&Note>,
     instr: Simple<'_>,
     state: State,
-) -> Result<State, Stop<Why>>
+) -> Result<State, OrMemory<Why>>
     ensures { IsSaid result (stepped (option_copied note.entry) (instr_seen instr.entry) state) }
 {
     match note {
@@ -110,7 +116,7 @@ pub fn stepped(
             let state = moved(alloc, note.moves.as_slice(), state)?;
             match note.used {
                 Use::Nothing => after(instr, state),
-                Use::With(_) => Err(Stop::Refused(Why::Reason(Reason::Use))),
+                Use::With(_) => Err(OrMemory::Fault(Why::Reason(Reason::Use))),
             }
         }
     }
@@ -122,7 +128,7 @@ pub fn ended(
     invariant: &[Formula],
     note: Option<&Note>,
     state: State,
-) -> Result<(), Stop<Why>>
+) -> Result<(), OrMemory<Why>>
     ensures { IsSaid result (ended invariant.now (option_copied note.entry) state) }
 {
     match note {

@@ -12,9 +12,10 @@ use crate::moves::{ended, stepped};
 use crate::notes::{Formula, Note};
 use crate::place::placed;
 use crate::state::State;
-use crate::stop::{Refusal, Stop};
+use crate::stop::Refusal;
 use std::alloc::Global;
 use wasm_syntax::{Code, Seen, Simple};
+use wasm_values::OrMemory;
 
 fn instr_at(code: &Code, i: usize) -> Simple<'_>
     requires simple { list_all is_simple code.now ≡ true }
@@ -51,7 +52,7 @@ fn run(
     places: &[usize],
     code: &Code,
     mut state: State,
-) -> Result<(), Stop<Refusal>>
+) -> Result<(), OrMemory<Refusal>>
     requires simple { list_all is_simple code.now ≡ true }
     requires notes { IsCursor (λ note. note.at) notes.now 0 0 }
     requires places { length places.now ≡ length (flat_body code.now) }
@@ -82,7 +83,7 @@ pub fn check_function(
     places: &[usize],
     globals: usize,
     code: &Code,
-) -> Result<(), Stop<Refusal>>
+) -> Result<(), OrMemory<Refusal>>
     requires simple { list_all is_simple code.now ≡ true }
     requires notes { rise_within 0 (length (flat_body code.now)) (map (λ note. note.at) notes.now) ≡ true }
     requires places { length places.now ≡ length (flat_body code.now) }
