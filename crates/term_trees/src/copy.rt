@@ -3,7 +3,7 @@ ghost use Rattle.std.specs.Prelude.{◌≡◌, IfOk};
 use crate::boxed::Boxed;
 use crate::term::{Formula, Term};
 use std::alloc::Global;
-use wasm_values::OutOfMemory;
+use wasm_values::{Duplicate, OutOfMemory};
 
 impl Term {
     #[cycle(copied_term)]
@@ -58,6 +58,12 @@ impl Term {
             Term::Sext(k, n, a) => Ok(Term::Sext(*k, *n, a.get().boxed_term(alloc)?)),
             Term::Sgn(n, a) => Ok(Term::Sgn(*n, a.get().boxed_term(alloc)?)),
         }
+    }
+}
+
+impl Duplicate for Term {
+    fn duplicate(&self, alloc: Global) -> Result<Term, OutOfMemory> {
+        self.copy(alloc)
     }
 }
 
@@ -125,5 +131,11 @@ impl Formula {
                 Ok(Formula::Imp(f, g))
             }
         }
+    }
+}
+
+impl Duplicate for Formula {
+    fn duplicate(&self, alloc: Global) -> Result<Formula, OutOfMemory> {
+        self.copy(alloc)
     }
 }
