@@ -3,7 +3,7 @@ ghost use Rattle.bitvector_rules.specs.declared.step.Step.{out-Step};
 
 use std::alloc::Global;
 use term_logic::Formula;
-use wasm_values::{List, OutOfMemory};
+use wasm_values::{Duplicate, List, OutOfMemory};
 
 /// A rule of derivations.
 #[derive(Clone, Copy, Debug)]
@@ -121,5 +121,11 @@ impl Step {
     {
         let subs = copy_subs(alloc, self.subs.as_slice())?;
         self.copy_with(alloc, subs)
+    }
+}
+
+impl Duplicate for Step {
+    fn duplicate(&self, alloc: Global) -> Result<Step, OutOfMemory> {
+        self.copy(alloc)
     }
 }

@@ -3,7 +3,6 @@
 ghost use Rattle.std.specs.Prelude.{◌≡◌, IfOk};
 
 use crate::chunk::Chunk;
-use crate::copies::copy_formulas;
 use std::alloc::Global;
 use term_trees::Formula;
 use wasm_values::{List, OutOfMemory};
@@ -23,7 +22,7 @@ impl Assertion {
     {
         Ok(Assertion {
             own: self.own,
-            formulas: copy_formulas(alloc, &self.formulas)?,
+            formulas: self.formulas.copy(alloc)?,
             chunks: self.chunks.copy(alloc)?,
         })
     }

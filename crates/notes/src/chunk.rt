@@ -30,32 +30,58 @@ pub enum Chunk {
     },
 }
 
+/// Two terms that equal these.
+fn copy_terms(alloc: Global, a: &Term, b: &Term) -> Result<(Term, Term), OutOfMemory>
+    ensures { IfOk result (λ copied. (copied.0 ≡ a.now) × (copied.1 ≡ b.now)) }
+{
+    Ok((a.copy(alloc)?, b.copy(alloc)?))
+}
+
+/// Two terms and a formula that equal these.
+fn copy_row(
+    alloc: Global,
+    at: &Term,
+    count: &Term,
+    each: &Formula,
+) -> Result<(Term, Term, Formula), OutOfMemory>
+    ensures { IfOk result (λ copied. (copied.0 ≡ at.now) × (copied.1 ≡ count.now) × (copied.2 ≡ each.now)) }
+{
+    let (at, count) = copy_terms(alloc, at, count)?;
+    Ok((at, count, each.copy(alloc)?))
+}
+
 impl Chunk {
     /// A chunk that equals this one.
     pub fn copy(&self, alloc: Global) -> Result<Chunk, OutOfMemory>
         ensures { IfOk result (λ copied. copied ≡ self.now) }
     {
         match self {
-            Chunk::Cell { width, at, value } => Ok(Chunk::Cell {
-                width: *width,
-                at: at.copy(alloc)?,
-                value: value.copy(alloc)?,
-            }),
-            Chunk::Region { at, len } => Ok(Chunk::Region {
-                at: at.copy(alloc)?,
-                len: len.copy(alloc)?,
-            }),
+            Chunk::Cell { width, at, value } => {
+                let (at, value) = copy_terms(alloc, at, value)?;
+                Ok(Chunk::Cell {
+                    width: *width,
+                    at,
+                    value,
+                })
+            }
+            Chunk::Region { at, len } => {
+                let (at, len) = copy_terms(alloc, at, len)?;
+                Ok(Chunk::Region { at, len })
+            }
             Chunk::Row {
                 width,
                 at,
                 count,
                 each,
-            } => Ok(Chunk::Row {
-                width: *width,
-                at: at.copy(alloc)?,
-                count: count.copy(alloc)?,
-                each: each.copy(alloc)?,
-            }),
+            } => {
+                let (at, count, each) = copy_row(alloc, at, count, each)?;
+                Ok(Chunk::Row {
+                    width: *width,
+                    at,
+                    count,
+                    each,
+                })
+            }
         }
     }
 }

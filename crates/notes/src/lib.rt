@@ -3,7 +3,6 @@
 
 mod assertion;
 mod chunk;
-mod copies;
 mod heap_move;
 mod moves;
 mod outline;

@@ -3,7 +3,6 @@
 ghost use Rattle.std.specs.Prelude.{◌≡◌, IfOk};
 ghost use Rattle.notes.specs.declared.moves.Move.TheVariants.{Lemma};
 
-use crate::copies::{copy_steps, copy_terms};
 use crate::heap_move::HeapMove;
 use bitvector_rules::Step;
 use std::alloc::Global;
@@ -30,7 +29,8 @@ fn copy_derivation(
 ) -> Result<(Formula, List<Step>), OutOfMemory>
     ensures { IfOk result (λ copied. (copied.0 ≡ formula.now) × (copied.1 ≡ steps.now)) }
 {
-    Ok((formula.copy(alloc)?, copy_steps(alloc, steps)?))
+    let steps = steps.copy(alloc)?;
+    Ok((formula.copy(alloc)?, steps))
 }
 
 /// A use of a lemma that equals this one.
@@ -42,11 +42,7 @@ fn copy_lemma_use(
 ) -> Result<Move, OutOfMemory>
     ensures { IfOk result (λ copied. copied ≡ Lemma name.now terms.now facts.now) }
 {
-    Ok(Move::Lemma(
-        name.copy(alloc)?,
-        copy_terms(alloc, terms)?,
-        facts.copy(alloc)?,
-    ))
+    Ok(Move::Lemma(name.copy(alloc)?, terms.copy(alloc)?, facts.copy(alloc)?))
 }
 
 impl Move {

@@ -4,7 +4,6 @@ ghost use Rattle.std.specs.Prelude.{◌≡◌, IfOk};
 
 use crate::assertion::{Assertion, Contract};
 use crate::chunk::Chunk;
-use crate::copies::{copy_formulas, copy_steps};
 use crate::moves::Move;
 use crate::uses::{Take, Use, With};
 use bitvector_rules::Step;
@@ -127,12 +126,13 @@ impl Lemma {
     pub fn copy(&self, alloc: Global) -> Result<Lemma, OutOfMemory>
         ensures { IfOk result (λ copied. copied ≡ self.now) }
     {
+        let steps = self.steps.copy(alloc)?;
         Ok(Lemma {
             name: self.name.copy(alloc)?,
             vars: self.vars,
-            hyps: copy_formulas(alloc, &self.hyps)?,
+            hyps: self.hyps.copy(alloc)?,
             goal: self.goal.copy(alloc)?,
-            steps: copy_steps(alloc, &self.steps)?,
+            steps,
         })
     }
 }
@@ -157,11 +157,13 @@ impl Notes {
     pub fn copy(&self, alloc: Global) -> Result<Notes, OutOfMemory>
         ensures { IfOk result (λ copied. copied ≡ self.now) }
     {
+        let funcs = self.funcs.copy(alloc)?;
+        let lemmas = self.lemmas.copy(alloc)?;
         Ok(Notes {
             invariant: self.invariant.copy(alloc)?,
             initial: self.initial.copy(alloc)?,
-            funcs: self.funcs.copy(alloc)?,
-            lemmas: self.lemmas.copy(alloc)?,
+            funcs,
+            lemmas,
         })
     }
 }

@@ -3,7 +3,6 @@
 ghost use Rattle.std.specs.Prelude.{◌≡◌, IfOk};
 
 use crate::assertion::Assertion;
-use crate::copies::copy_terms;
 use crate::moves::Move;
 use std::alloc::Global;
 use term_trees::Term;
@@ -24,7 +23,7 @@ impl With {
         ensures { IfOk result (λ copied. copied ≡ self.now) }
     {
         Ok(With {
-            terms: copy_terms(alloc, &self.terms)?,
+            terms: self.terms.copy(alloc)?,
             facts: self.facts.copy(alloc)?,
             chunks: self.chunks.copy(alloc)?,
         })
@@ -72,6 +71,35 @@ pub enum Use {
     Skip(Assertion, Take),
 }
 
+/// Two `with`s that equal these.
+fn copy_both(alloc: Global, a: &With, b: &With) -> Result<(With, With), OutOfMemory>
+    ensures { IfOk result (λ copied. (copied.0 ≡ a.now) × (copied.1 ≡ b.now)) }
+{
+    Ok((a.copy(alloc)?, b.copy(alloc)?))
+}
+
+/// An assertion and a `with` that equal these.
+fn copy_loop(
+    alloc: Global,
+    assertion: &Assertion,
+    with: &With,
+) -> Result<(Assertion, With), OutOfMemory>
+    ensures { IfOk result (λ copied. (copied.0 ≡ assertion.now) × (copied.1 ≡ with.now)) }
+{
+    Ok((assertion.copy(alloc)?, with.copy(alloc)?))
+}
+
+/// An assertion and a take that equal these.
+fn copy_skip(
+    alloc: Global,
+    assertion: &Assertion,
+    take: &Take,
+) -> Result<(Assertion, Take), OutOfMemory>
+    ensures { IfOk result (λ copied. (copied.0 ≡ assertion.now) × (copied.1 ≡ take.now)) }
+{
+    Ok((assertion.copy(alloc)?, take.copy(alloc)?))
+}
+
 impl Use {
     /// A use that equals this one.
     pub fn copy(&self, alloc: Global) -> Result<Use, OutOfMemory>
@@ -85,10 +113,19 @@ impl Use {
             Use::Trap(with) => Ok(Use::Trap(with.copy(alloc)?)),
             Use::Take(take) => Ok(Use::Take(take.copy(alloc)?)),
             Use::Table(takes) => Ok(Use::Table(takes.copy(alloc)?)),
-            Use::Both(invariant, pre) => Ok(Use::Both(invariant.copy(alloc)?, pre.copy(alloc)?)),
+            Use::Both(invariant, pre) => {
+                let (invariant, pre) = copy_both(alloc, invariant, pre)?;
+                Ok(Use::Both(invariant, pre))
+            }
             Use::Label(assertion) => Ok(Use::Label(assertion.copy(alloc)?)),
-            Use::Loop(assertion, with) => Ok(Use::Loop(assertion.copy(alloc)?, with.copy(alloc)?)),
-            Use::Skip(assertion, take) => Ok(Use::Skip(assertion.copy(alloc)?, take.copy(alloc)?)),
+            Use::Loop(assertion, with) => {
+                let (assertion, with) = copy_loop(alloc, assertion, with)?;
+                Ok(Use::Loop(assertion, with))
+            }
+            Use::Skip(assertion, take) => {
+                let (assertion, take) = copy_skip(alloc, assertion, take)?;
+                Ok(Use::Skip(assertion, take))
+            }
         }
     }
 }
