@@ -7,7 +7,7 @@ use Rattle.term_logic.specs.Leaves.{place_id}
 -- The leaves that have a term, and the first variables, which stand for themselves.
 abbrev pub leaf_scope : LeafScope → Scope
 leaf_scope s = record {
-  variable = λ k. nat_lt k s.variables || is_some (slice_get s.leaves.variables.now k);
-  own = λ k. is_some (slice_get s.leaves.own.now k);
-  place = λ p. is_some (place_id s.leaves p);
+  variable = λ k. nat_lt k s.variables || is_some (slice_get s.leaves.now.variables.now k);
+  own = λ k. is_some (slice_get s.leaves.now.own.now k);
+  place = λ p. is_some (place_id s.leaves.now p);
 }

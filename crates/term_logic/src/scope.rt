@@ -15,7 +15,7 @@ use term_trees::{Place, Scoped};
 #[derive(Clone, Copy)]
 pub struct LeafScope<'a> {
     pub variables: u32,
-    pub leaves: LeafIds<'a>,
+    pub leaves: &'a LeafIds<'a>,
 }
 
 impl Scoped for LeafScope<'_> {
