@@ -1,5 +1,8 @@
-ghost use Rattle.std.specs.Prelude.{◌≡◌, ◌<◌, length, IfSome};
+ghost use Rattle.std.specs.Prelude.{◌≡◌, ◌==◌, ◌<◌, length, IfSome};
 ghost use Rattle.std.specs.Option.{option_map};
+ghost use Rattle.std.specs.Ordering.{int_eq};
+ghost use Rattle.term_trees.specs.contracts.term.PlacePartialEq.TheImpl as places;
+ghost use Rattle.term_trees.specs.Same.{passes};
 ghost use Rattle.term_logic.specs.Table.{tree_at};
 ghost use Rattle.term_trees.specs.Views.{num_of, var_of, own_of, place_of, sum_of, difference_of, product_of, one_of, two_of, low_of, sext_of, sgn_of};
 
@@ -50,6 +53,50 @@ impl TermTable {
         match self.cell(id) {
             TermCell::At(place) => Some(*place),
             _ => None,
+        }
+    }
+
+    /// Whether the term is this number.
+    pub fn is_num(&self, id: TermId, n: i128) -> bool
+        requires { id < length self.now }
+        ensures { result ≡ passes (num_of (tree_at self.now id)) (λ m. int_eq n m) }
+    {
+        match self.num_of(id) {
+            Some(m) => n == m,
+            None => false,
+        }
+    }
+
+    /// Whether the term is the variable of this number.
+    pub fn is_var(&self, id: TermId, k: u32) -> bool
+        requires { id < length self.now }
+        ensures { result ≡ passes (var_of (tree_at self.now id)) (λ j. k == j) }
+    {
+        match self.var_of(id) {
+            Some(j) => k == j,
+            None => false,
+        }
+    }
+
+    /// Whether the term is the own variable of this number.
+    pub fn is_own(&self, id: TermId, k: u32) -> bool
+        requires { id < length self.now }
+        ensures { result ≡ passes (own_of (tree_at self.now id)) (λ j. k == j) }
+    {
+        match self.own_of(id) {
+            Some(j) => k == j,
+            None => false,
+        }
+    }
+
+    /// Whether the term is this place.
+    pub fn is_place(&self, id: TermId, place: Place) -> bool
+        requires { id < length self.now }
+        ensures { result ≡ passes (place_of (tree_at self.now id)) (λ p. (places.ghosts).eq place p) }
+    {
+        match self.place_of(id) {
+            Some(p) => place == p,
+            None => false,
         }
     }
 
