@@ -1,8 +1,10 @@
-ghost use Rattle.std.specs.Prelude.{◌≡◌, ◌<◌, ◌≤◌, ◌&&◌, length};
+ghost use Rattle.std.specs.Prelude.{◌≡◌, ◌<◌, ◌≤◌, ◌&&◌, length, IfSome};
+ghost use Rattle.std.specs.Option.{option_map};
 ghost use Rattle.term_logic.specs.Table.{tree_at, CellWithin};
 ghost use Rattle.term_logic.specs.Formulas.{formula_bound, formula_of};
 ghost use Rattle.term_trees.specs.Same.{same};
 ghost use Rattle.equality_rules.specs.Rewrite.{becomes, cell_becomes, formula_becomes, is_rewrite};
+ghost use Rattle.equality_rules.specs.words.Becoming.{parts_become, counted_becomes};
 
 use term_logic::{IdFormula, TermCell, TermId, TermTable};
 
@@ -40,6 +42,49 @@ fn becomes(table: &TermTable, exchange: &Exchange, t: TermId, u: TermId) -> bool
     }
 }
 
+/// Whether there are two terms, and these become them.
+#[cycle(terms)]
+fn parts_become(
+    table: &TermTable,
+    exchange: &Exchange,
+    a: TermId,
+    b: TermId,
+    others: Option<(TermId, TermId)>,
+) -> bool
+    requires from { exchange.now.from < length table.now }
+    requires to { exchange.now.to < length table.now }
+    requires first { a < length table.now }
+    requires second { b < length table.now }
+    requires others { IfSome others (λ p. (p.0 < length table.now) × (p.1 < length table.now)) }
+    ensures { result ≡ parts_become (tree_at table.now exchange.now.from) (tree_at table.now exchange.now.to) (tree_at table.now a) (tree_at table.now b) (option_map (λ p. (tree_at table.now p.0, tree_at table.now p.1)) others) }
+{
+    match others {
+        Some((c, d)) => becomes(table, exchange, a, c) && becomes(table, exchange, b, d),
+        None => false,
+    }
+}
+
+/// Whether there is this number with a term, and the term given becomes it.
+#[cycle(terms)]
+fn counted_becomes(
+    table: &TermTable,
+    exchange: &Exchange,
+    k: u32,
+    a: TermId,
+    other: Option<(u32, TermId)>,
+) -> bool
+    requires from { exchange.now.from < length table.now }
+    requires to { exchange.now.to < length table.now }
+    requires first { a < length table.now }
+    requires other { IfSome other (λ p. p.1 < length table.now) }
+    ensures { result ≡ counted_becomes (tree_at table.now exchange.now.from) (tree_at table.now exchange.now.to) k (tree_at table.now a) (option_map (λ p. (p.0, tree_at table.now p.1)) other) }
+{
+    match other {
+        Some((j, c)) => k == j && becomes(table, exchange, a, c),
+        None => false,
+    }
+}
+
 /// Whether a term is built as the cell is, from what the cell's parts become.
 #[cycle(terms)]
 fn cell_becomes(table: &TermTable, exchange: &Exchange, cell: &TermCell, u: TermId) -> bool
@@ -50,34 +95,13 @@ fn cell_becomes(table: &TermTable, exchange: &Exchange, cell: &TermCell, u: Term
     ensures { result ≡ cell_becomes (tree_at table.now exchange.now.from) (tree_at table.now exchange.now.to) table.now cell.now (tree_at table.now u) }
 {
     match cell {
-        TermCell::Num(n) => match table.num_of(u) {
-            Some(m) => *n == m,
-            None => false,
-        },
-        TermCell::Var(k) => match table.var_of(u) {
-            Some(j) => *k == j,
-            None => false,
-        },
-        TermCell::Own(k) => match table.own_of(u) {
-            Some(j) => *k == j,
-            None => false,
-        },
-        TermCell::At(place) => match table.place_of(u) {
-            Some(p) => *place == p,
-            None => false,
-        },
-        TermCell::Add(a, b) => match table.sum_of(u) {
-            Some((c, d)) => becomes(table, exchange, *a, c) && becomes(table, exchange, *b, d),
-            None => false,
-        },
-        TermCell::Sub(a, b) => match table.difference_of(u) {
-            Some((c, d)) => becomes(table, exchange, *a, c) && becomes(table, exchange, *b, d),
-            None => false,
-        },
-        TermCell::Mul(a, b) => match table.product_of(u) {
-            Some((c, d)) => becomes(table, exchange, *a, c) && becomes(table, exchange, *b, d),
-            None => false,
-        },
+        TermCell::Num(n) => table.is_num(u, *n),
+        TermCell::Var(k) => table.is_var(u, *k),
+        TermCell::Own(k) => table.is_own(u, *k),
+        TermCell::At(place) => table.is_place(u, *place),
+        TermCell::Add(a, b) => parts_become(table, exchange, *a, *b, table.sum_of(u)),
+        TermCell::Sub(a, b) => parts_become(table, exchange, *a, *b, table.difference_of(u)),
+        TermCell::Mul(a, b) => parts_become(table, exchange, *a, *b, table.product_of(u)),
         TermCell::One(op, a) => match table.one_of(u) {
             Some((other, c)) => *op == other && becomes(table, exchange, *a, c),
             None => false,
@@ -88,18 +112,12 @@ fn cell_becomes(table: &TermTable, exchange: &Exchange, cell: &TermCell, u: Term
                 && becomes(table, exchange, *b, d),
             None => false,
         },
-        TermCell::Low(k, a) => match table.low_of(u) {
-            Some((j, c)) => *k == j && becomes(table, exchange, *a, c),
-            None => false,
-        },
+        TermCell::Low(k, a) => counted_becomes(table, exchange, *k, *a, table.low_of(u)),
         TermCell::Sext(k, n, a) => match table.sext_of(u) {
             Some((j, m, c)) => *k == j && *n == m && becomes(table, exchange, *a, c),
             None => false,
         },
-        TermCell::Sgn(n, a) => match table.sgn_of(u) {
-            Some((m, c)) => *n == m && becomes(table, exchange, *a, c),
-            None => false,
-        },
+        TermCell::Sgn(n, a) => counted_becomes(table, exchange, *n, *a, table.sgn_of(u)),
     }
 }
 
@@ -114,18 +132,9 @@ fn formula_becomes(table: &TermTable, exchange: &Exchange, f: &IdFormula, g: &Id
     match f {
         IdFormula::True => g.is_true(table),
         IdFormula::False => g.is_false(table),
-        IdFormula::Eq(a, b) => match g.eq_of(table) {
-            Some((c, d)) => becomes(table, exchange, *a, c) && becomes(table, exchange, *b, d),
-            None => false,
-        },
-        IdFormula::Le(a, b) => match g.le_of(table) {
-            Some((c, d)) => becomes(table, exchange, *a, c) && becomes(table, exchange, *b, d),
-            None => false,
-        },
-        IdFormula::Lt(a, b) => match g.lt_of(table) {
-            Some((c, d)) => becomes(table, exchange, *a, c) && becomes(table, exchange, *b, d),
-            None => false,
-        },
+        IdFormula::Eq(a, b) => parts_become(table, exchange, *a, *b, g.eq_of(table)),
+        IdFormula::Le(a, b) => parts_become(table, exchange, *a, *b, g.le_of(table)),
+        IdFormula::Lt(a, b) => parts_become(table, exchange, *a, *b, g.lt_of(table)),
         IdFormula::Not(a) => match g.not_of(table) {
             Some(h) => formula_becomes(table, exchange, a.get(), h),
             None => false,

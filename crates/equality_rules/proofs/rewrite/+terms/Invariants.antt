@@ -19,7 +19,13 @@ above (Sext k n a) = a + 1
 above (Sgn n a) = a + 1
 
 abbrev pub decreases-becomes : goal.decreases-becomes
-decreases-becomes l = 2 * l.t + 1
+decreases-becomes l = 3 * l.t + 1
+
+abbrev pub decreases-parts_become : goal.decreases-parts_become
+decreases-parts_become l = 3 * max l.a l.b + 2
+
+abbrev pub decreases-counted_becomes : goal.decreases-counted_becomes
+decreases-counted_becomes l = 3 * l.a + 2
 
 abbrev pub decreases-cell_becomes : goal.decreases-cell_becomes
-decreases-cell_becomes l = 2 * above l.cell.now
+decreases-cell_becomes l = 3 * above l.cell.now
