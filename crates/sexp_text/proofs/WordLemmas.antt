@@ -1,6 +1,7 @@
 -- What is refused, and with which word.
 use Rattle.std.proofs.Common.{◌≡◌, ℕ, zero, suc, ℤ, ◌+◌, ◌*◌, ◌/◌, ◌%◌, ◌<◌, ◌≤◌, Bool, true, false, cond, eqb, ltb, ◌⊎◌, inl, inr, ⊎_elim, List, [], ◌∷◌, ◌++◌, length, take, drop, replicate, Option, Some, None, Result, Ok, Err, refl, sym, ap, ◌∙◌, subst, append_assoc, length-append, arith}
 use Rattle.std.proofs.lemmas.Bool.{eqb-true, eqb-false, ltb-false, cases_lt}
+use Rattle.std.proofs.lemmas.Bool.Decides.{nat_tests}
 use Rattle.std.proofs.lemmas.Grind.{flat_map-append}
 use Rattle.std.proofs.lemmas.List.{append-nil, take-append-drop, length-take-le}
 use Rattle.std.proofs.lemmas.Str.{is_utf8-from_IsUtf8}
@@ -32,7 +33,7 @@ use Rattle.sexp_text.proofs.NumberLemmas.{writes_number, word_writes, word_longe
 use Rattle.sexp_text.proofs.PutLemmas.{bound}
 use Rattle.sexp_text.proofs.ReadLemmas.{AreRun, go_on, step_close, step_run, begun_inside, run_more, place, digit_of, first_of_escape}
 use Rattle.sexp_text.proofs.SoundLemmas.{begun_next, with_mode_next, char_of_digit, spelled-read}
-use Rattle.sexp_text.proofs.Utf8Lemmas.{AreBytes}
+use Rattle.sexp_text.proofs.Utf8Lemmas.{AreBytes, AreBytes-append}
 
 -- what is refused is no text
 pub no_text : (text : List ℕ) (fault : TextFault) → read text ≡ Err fault → IsText text → ⊥
@@ -213,10 +214,10 @@ abbrev Kept : List ℕ → Mode → Type 0
 Kept text Between = Unit {0}
 Kept text Comment = Unit {0}
 Kept text (Run from run) = Unit {0}
-Kept text (Quoted from bytes) = InQuote text from (flat_map string_byte bytes)
-Kept text (Escape from bytes) = InQuote text from (flat_map string_byte bytes ++ 92 ∷ [])
+Kept text (Quoted from bytes) = InQuote text from (flat_map string_byte bytes) × AreBytes bytes
+Kept text (Escape from bytes) = InQuote text from (flat_map string_byte bytes ++ 92 ∷ []) × AreBytes bytes
 Kept text (Digit from bytes high) =
-    (d : ℕ) × (begins_escape d ≡ true) × (hex_value d ≡ high) × InQuote text from (flat_map string_byte bytes ++ 92 ∷ d ∷ [])
+    (d : ℕ) × (begins_escape d ≡ true) × (hex_value d ≡ high) × InQuote text from (flat_map string_byte bytes ++ 92 ∷ d ∷ []) × AreBytes bytes
 
 quote_more : (text : List ℕ) (from b : ℕ) (inner more : List ℕ) → inner ++ b ∷ [] ≡ more → InQuote text from inner → InQuote (text ++ b ∷ []) from more
 quote_more text from b inner more e k =
@@ -243,7 +244,7 @@ between_kept text b front next h e = by_white (is_white b) e
     by_quote true t e =
         let i = begun_next p (Quoted p []) front next e in
         let d = inside_place text front h i.0 in
-        subst P i.1 (text, ap (λ c. text ++ c ∷ []) (eqb-true b 34 t), refl, d.0, d.1)
+        subst P i.1 ((text, ap (λ c. text ++ c ∷ []) (eqb-true b 34 t), refl, d.0, d.1), tt)
     by_quote false t e = by_run (is_run b) e
 
     by_close : (v : Bool) →
@@ -272,13 +273,17 @@ flat_map-push bytes c = flat_map-append string_byte bytes (c ∷ []) ∙ ap (λ 
 plain_byte : (b : ℕ) → is_plain b ≡ true → string_byte b ≡ b ∷ []
 plain_byte b h = rw h refl
 
+plain_below : (b : ℕ) → is_plain b ≡ true → b < 256
+unfolding is_plain
+plain_below b h = grind (arith, nat_tests)
+
 escaped_byte : (b : ℕ) → is_plain b ≡ false → string_byte b ≡ 92 ∷ digit_char (b / 16) ∷ digit_char (b % 16) ∷ []
 escaped_byte b h = rw h refl
 
-string_kept : (text : List ℕ) (p b from : ℕ) (bytes : List ℕ) (front : Front) (next : Front × Mode) → InQuote text from (flat_map string_byte bytes) →
+string_kept : (text : List ℕ) (p b from : ℕ) (bytes : List ℕ) (front : Front) (next : Front × Mode) → InQuote text from (flat_map string_byte bytes) → AreBytes bytes →
     in_string b from bytes front ≡ Ok next → Kept (text ++ b ∷ []) next.1
 unfolding in_string
-string_kept text p b from bytes front next k e = by_quote (eqb b 34) e
+string_kept text p b from bytes front next k h e = by_quote (eqb b 34) e
   where
     P : Front × Mode → Type 0
     P n = Kept (text ++ b ∷ []) n.1
@@ -287,14 +292,14 @@ string_kept text p b from bytes front next k e = by_quote (eqb b 34) e
     by_plain true t e =
         let i : (front, Quoted from (bytes ++ b ∷ [])) ≡ next = cc in
         let same = ap (λ ys. flat_map string_byte bytes ++ ys) (sym (plain_byte b t)) ∙ sym (flat_map-push bytes b) in
-        subst P i (quote_more text from b (flat_map string_byte bytes) (flat_map string_byte (bytes ++ b ∷ [])) same k)
+        subst P i (quote_more text from b (flat_map string_byte bytes) (flat_map string_byte (bytes ++ b ∷ [])) same k, AreBytes-append bytes (b ∷ []) h (plain_below b t, tt))
     by_plain false t e = cc
 
     by_backslash : (v : Bool) → eqb b 92 ≡ v → cond v (Ok (front, Escape from bytes)) (cond (is_plain b) (Ok (front, Quoted from (bytes ++ b ∷ []))) (refused from word.String)) ≡ Ok next → P next
     by_backslash true t e =
         let i : (front, Escape from bytes) ≡ next = cc in
         let same = ap (λ c. flat_map string_byte bytes ++ c ∷ []) (eqb-true b 92 t) in
-        subst P i (quote_more text from b (flat_map string_byte bytes) (flat_map string_byte bytes ++ 92 ∷ []) same k)
+        subst P i (quote_more text from b (flat_map string_byte bytes) (flat_map string_byte bytes ++ 92 ∷ []) same k, h)
     by_backslash false t e = by_plain (is_plain b) refl e
 
     by_quote : (v : Bool) →
@@ -302,16 +307,16 @@ string_kept text p b from bytes front next k e = by_quote (eqb b 34) e
     by_quote true e = let i = with_mode_next Between (with_items front (string_items from bytes)) next e in subst P i.2 tt
     by_quote false e = by_backslash (eqb b 92) refl e
 
-escape_kept : (text : List ℕ) (b from : ℕ) (bytes : List ℕ) (front : Front) (next : Front × Mode) → InQuote text from (flat_map string_byte bytes ++ 92 ∷ []) →
+escape_kept : (text : List ℕ) (b from : ℕ) (bytes : List ℕ) (front : Front) (next : Front × Mode) → InQuote text from (flat_map string_byte bytes ++ 92 ∷ []) → AreBytes bytes →
     first_digit b from bytes front ≡ Ok next → Kept (text ++ b ∷ []) next.1
 unfolding first_digit
-escape_kept text b from bytes front next k e = by_first (begins_escape b) refl e
+escape_kept text b from bytes front next k h e = by_first (begins_escape b) refl e
   where
     by_first : (v : Bool) → begins_escape b ≡ v → cond v (Ok (front, Digit from bytes (hex_value b))) (refused from word.String) ≡ Ok next → Kept (text ++ b ∷ []) next.1
     by_first true t e =
         let i : (front, Digit from bytes (hex_value b)) ≡ next = cc in
         let q = quote_more text from b (flat_map string_byte bytes ++ 92 ∷ []) (flat_map string_byte bytes ++ 92 ∷ b ∷ []) (append_assoc (flat_map string_byte bytes) (92 ∷ []) (b ∷ [])) k in
-        subst (λ n. Kept (text ++ b ∷ []) n.1) i (b, t, refl, q)
+        subst (λ n. Kept (text ++ b ∷ []) n.1) i (b, t, refl, q, h)
     by_first false t e = cc
 
 -- the byte that an escape stands for, and its digits
@@ -344,7 +349,10 @@ digit_kept text b from bytes high front next k e = by_hex (is_hex b) refl e
         let byte : string_byte (16 * high + hex_value b) ≡ 92 ∷ k.0 ∷ b ∷ [] =
         ap (λ x. string_byte (16 * x + hex_value b)) (sym k.2) ∙ escape_byte k.0 b k.1 t n' in
         let same = append_assoc (flat_map string_byte bytes) (92 ∷ k.0 ∷ []) (b ∷ []) ∙ ap (λ ys. flat_map string_byte bytes ++ ys) (sym byte) ∙ sym (flat_map-push bytes (16 * high + hex_value b)) in
-        subst P i (quote_more text from b (flat_map string_byte bytes ++ 92 ∷ k.0 ∷ []) (flat_map string_byte (bytes ++ (16 * high + hex_value b) ∷ [])) same k.3)
+        let first = (char_of_digit k.0 (begins_escape-hex k.0 k.1)).1 in
+        let second = (char_of_digit b t).1 in
+        let below : 16 * high + hex_value b < 256 = omega (arith, first, second, k.2) in
+        subst P i (quote_more text from b (flat_map string_byte bytes ++ 92 ∷ k.0 ∷ []) (flat_map string_byte (bytes ++ (16 * high + hex_value b) ∷ [])) same k.3, AreBytes-append bytes ((16 * high + hex_value b) ∷ []) k.4 (below, tt))
 
     by_hex : (v : Bool) → is_hex b ≡ v →
         cond v (cond (is_plain (16 * high + hex_value b)) (refused from word.String) (Ok (front, Quoted from (bytes ++ (16 * high + hex_value b) ∷ [])))) (refused from word.String) ≡ Ok next → P next
@@ -377,8 +385,8 @@ step_kept : (text : List ℕ) (b : ℕ) (front : Front) (mode : Mode) (next : Fr
 step_kept text b front Between next r h k e = between_kept text b front next (between_place text front r h.0) (sym (step_between (length text) b front) ∙ e)
 step_kept text b front Comment next r h k e = comment_kept text b front next e
 step_kept text b front (Run from run) next r h k e = run_kept text b from run front next r h.0 h.1 e
-step_kept text b front (Quoted from bytes) next r h k e = string_kept text 0 b from bytes front next k (sym (step_string (length text) b from bytes front) ∙ e)
-step_kept text b front (Escape from bytes) next r h k e = escape_kept text b from bytes front next k (sym (step_escape (length text) b from bytes front) ∙ e)
+step_kept text b front (Quoted from bytes) next r h k e = string_kept text 0 b from bytes front next k.0 k.1 (sym (step_string (length text) b from bytes front) ∙ e)
+step_kept text b front (Escape from bytes) next r h k e = escape_kept text b from bytes front next k.0 k.1 (sym (step_escape (length text) b from bytes front) ∙ e)
 step_kept text b front (Digit from bytes high) next r h k e = digit_kept text b from bytes high front next k (sym (step_digit (length text) b from bytes high front) ∙ e)
 
 -- what no string begins with
@@ -517,10 +525,10 @@ quote_refused text rest b from inner front mode fault r e k p h =
 abbrev StringErrs : List ℕ → ℕ → List ℕ → List ℕ → ℕ → TextFault → Type 0
 StringErrs inner b before rest from fault = (place_of fault ≡ from) × IsRefused fault before (34 ∷ (inner ++ b ∷ [])) rest
 
-string_errs : (text rest : List ℕ) (b from : ℕ) (bytes : List ℕ) (front : Front) → (k : InQuote text from (flat_map string_byte bytes)) →
+string_errs : (text rest : List ℕ) (b from : ℕ) (bytes : List ℕ) (front : Front) → (k : InQuote text from (flat_map string_byte bytes)) → AreBytes bytes →
     Errs (StringErrs (flat_map string_byte bytes) b k.0 rest from) (in_string b from bytes front)
 unfolding in_string string_items
-string_errs text rest b from bytes front k = by_quote (eqb b 34) refl
+string_errs text rest b from bytes front k h = by_quote (eqb b 34) refl
   where
     P : TextFault → Type 0
     P = StringErrs (flat_map string_byte bytes) b k.0 rest from
@@ -537,7 +545,7 @@ string_errs text rest b from bytes front k = by_quote (eqb b 34) refl
     by_utf8 true t q = tt
     by_utf8 false t q = (
       refl,
-      (k.3, bytes, k.4, ap (λ c. 34 ∷ (flat_map string_byte bytes ++ c ∷ [])) q, λ u. tt≢ff (sym (is_utf8-from_IsUtf8 bytes u) ∙ t)),
+      (k.3, bytes, k.4, h, ap (λ c. 34 ∷ (flat_map string_byte bytes ++ c ∷ [])) q, λ u. tt≢ff (sym (is_utf8-from_IsUtf8 bytes u) ∙ t)),
     )
 
     by_quote : (v : Bool) → eqb b 34 ≡ v →
@@ -903,11 +911,11 @@ step_refused text rest b front Between fault r h k e =
 step_refused text rest b front Comment fault r h k e = absurd (comment_fault (length text) b front fault e)
 step_refused text rest b front (Run from run) fault r h k e = run_refused text rest b from run front fault r h.0 h.1 e
 step_refused text rest b front (Quoted from bytes) fault r h k e =
-    let w = errs_at (StringErrs (flat_map string_byte bytes) b k.0 rest from) (in_string b from bytes front) fault (string_errs text rest b from bytes front k) (sym (step_string (length text) b from bytes front) ∙ e) in
-    quote_refused text rest b from (flat_map string_byte bytes) front (Quoted from bytes) fault r e k w.0 w.1
+    let w = errs_at (StringErrs (flat_map string_byte bytes) b k.0.0 rest from) (in_string b from bytes front) fault (string_errs text rest b from bytes front k.0 k.1) (sym (step_string (length text) b from bytes front) ∙ e) in
+    quote_refused text rest b from (flat_map string_byte bytes) front (Quoted from bytes) fault r e k.0 w.0 w.1
 step_refused text rest b front (Escape from bytes) fault r h k e =
-    let w = errs_at (StringErrs (flat_map string_byte bytes ++ 92 ∷ []) b k.0 rest from) (first_digit b from bytes front) fault (escape_errs text rest b from bytes front k) (sym (step_escape (length text) b from bytes front) ∙ e) in
-    quote_refused text rest b from (flat_map string_byte bytes ++ 92 ∷ []) front (Escape from bytes) fault r e k w.0 w.1
+    let w = errs_at (StringErrs (flat_map string_byte bytes ++ 92 ∷ []) b k.0.0 rest from) (first_digit b from bytes front) fault (escape_errs text rest b from bytes front k.0) (sym (step_escape (length text) b from bytes front) ∙ e) in
+    quote_refused text rest b from (flat_map string_byte bytes ++ 92 ∷ []) front (Escape from bytes) fault r e k.0 w.0 w.1
 step_refused text rest b front (Digit from bytes high) fault r h k e =
     let w = errs_at (StringErrs (flat_map string_byte bytes ++ 92 ∷ k.0 ∷ []) b k.3.0 rest from) (second_digit b from bytes high front) fault (digit_errs text rest b from bytes high front k) (sym (step_digit (length text) b from bytes high front) ∙ e) in
     quote_refused text rest b from (flat_map string_byte bytes ++ 92 ∷ k.0 ∷ []) front (Digit from bytes high) fault r e k.3 w.0 w.1

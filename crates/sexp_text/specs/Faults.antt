@@ -102,7 +102,7 @@ IsRefusedAs word.Number front part rest =
 IsRefusedAs word.String front part rest =
     (depth : ℕ) × (inner : List ℕ) × IsInside depth front × (part ≡ 34 ∷ inner) × IsNoString part
 IsRefusedAs word.Utf8 front part rest =
-    (depth : ℕ) × (bytes : List ℕ) × IsInside depth front × (part ≡ quoted bytes) × (IsUtf8 bytes → ⊥)
+    (depth : ℕ) × (bytes : List ℕ) × IsInside depth front × AllByRecursion (λ b. b < 256) bytes × (part ≡ quoted bytes) × (IsUtf8 bytes → ⊥)
 IsRefusedAs word.Rest front part rest =
     (b : ℕ) × (part ≡ b ∷ []) × ((b ≡ 40) ⊎ BeginsPart b) × IsAfter front
 IsRefusedAs word.End front part rest = ⊥
