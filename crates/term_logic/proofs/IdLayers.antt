@@ -1,5 +1,5 @@
 -- Terms and formulas over a table, by their outermost layer.
-use Rattle.std.proofs.Common.{◌≡◌, ℕ, ◌+◌, max, List, [], ◌∷◌, refl, sym, ap, ◌∙◌}
+use Rattle.std.proofs.Common.{◌≡◌, ℕ, ◌+◌, List, [], refl, sym, ap, ◌∙◌}
 use Rattle.term_trees.specs.declared.term.Term.{Term, roll-Term, out-Term, map-Term, roll-out-Term}
 use Rattle.term_trees.specs.declared.term.Term.TheOpen.{Term-F, Num, Var, Own, At, Add, Sub, Mul, One, Two, Low, Sext, Sgn}
 use Rattle.term_logic.specs.declared.table.TermCell.{TermCell}

@@ -1,5 +1,5 @@
 -- The leaves that there are where some have a term of a table.
-use Rattle.std.specs.Prelude.{ℕ, Bool, ◌||◌, nat_lt, is_some, slice_get}
+use Rattle.std.specs.Prelude.{◌||◌, nat_lt, is_some, slice_get}
 use Rattle.term_trees.specs.Scopes.{Scope}
 use Rattle.term_logic.specs.declared.scope.LeafScope.{LeafScope}
 use Rattle.term_logic.specs.Leaves.{place_id}

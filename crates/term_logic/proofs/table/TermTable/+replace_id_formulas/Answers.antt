@@ -1,4 +1,4 @@
-use Rattle.std.proofs.Common.{◌≡◌, ◌+◌, ◌≤◌, max, length, arith, sym, ap, subst, ◌∙◌}
+use Rattle.std.proofs.Common.{◌≡◌, ◌≤◌, max, length, arith, sym, ap, subst, ◌∙◌}
 use Rattle.term_trees.specs.declared.term.Formula.TheVariants as tree
 use Rattle.term_logic.specs.Leaves.{leaves_of}
 use Rattle.term_logic.specs.Formulas.{formula_bound, formula_of}

@@ -1,4 +1,4 @@
-use Rattle.std.proofs.Common.{◌≡◌, [], ◌∷◌, length, IfOk, arith, sym, subst, ◌∙◌}
+use Rattle.std.proofs.Common.{◌≡◌, [], ◌∷◌, IfOk, arith, sym, subst, ◌∙◌}
 use Rattle.term_logic.specs.Table.{tree_at}
 use Rattle.term_logic.specs.Leaves.{leaves_of}
 use Rattle.term_trees.specs.Leaves.{replaced}
