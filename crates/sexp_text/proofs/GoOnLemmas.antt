@@ -41,7 +41,7 @@ after p (b ∷ bs) front mode = step p b front mode >>= λ next. after (p + 1) b
 abbrev pub Reach : List ℕ → Front → Mode → Type 0
 Reach text front mode = after 0 text Before Between ≡ Ok (front, mode)
 
-read-after : (xs ys : List ℕ) (p : ℕ) (front : Front) (mode : Mode) →
+pub read-after : (xs ys : List ℕ) (p : ℕ) (front : Front) (mode : Mode) →
     read_from p (xs ++ ys) front mode ≡ (after p xs front mode >>= λ s. read_from (p + length xs) ys s.0 s.1)
 read-after [] ys p front mode = place _ _ ys front mode (omega arith)
 read-after (b ∷ bs) ys p front mode = by_step (step p b front mode) (λ f m. read-after bs ys (p + 1) f m)
@@ -348,7 +348,7 @@ last_digit_escapes : (b : ℕ) → begins_escape b ≡ true → is_plain (16 * h
 unfolding last_digit begins_escape hex_value is_plain
 last_digit_escapes b h = grind (arith, nat_tests)
 
-escapes : (b : ℕ) → begins_escape b ≡ true → Escapes (hex_value b)
+pub escapes : (b : ℕ) → begins_escape b ≡ true → Escapes (hex_value b)
 escapes b h = (last_digit (hex_value b), last_digit_small (hex_value b), last_digit_escapes b h)
 
 -- a string begins at this place, and the text before it can go on

@@ -8,6 +8,7 @@ pub mod NumberLemmas
 pub mod PrintLemmas
 pub mod PutLemmas
 pub mod ReadLemmas
+pub mod RefusalLemmas
 pub mod SameLemmas
 pub mod SoundLemmas
 pub mod TextLaws

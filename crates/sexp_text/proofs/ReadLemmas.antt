@@ -119,7 +119,7 @@ run_more (b ∷ bs) rest p from run front h =
     place _ _ rest front (Run from (run ++ b ∷ bs)) (omega arith)
 
 -- where a run ends, its item is read
-run_ends : (rest : List ℕ) (p from k : ℕ) (run : List ℕ) (items xs : List Item) → EndsRun rest → run_items from run ≡ Ok xs →
+pub run_ends : (rest : List ℕ) (p from k : ℕ) (run : List ℕ) (items xs : List Item) → EndsRun rest → run_items from run ≡ Ok xs →
     read_from p rest (Inside items k) (Run from run) ≡ read_from p rest (Inside (items ++ xs) k) Between
 unfolding step finish added
 run_ends [] p from k run items xs h e = rw e refl
@@ -199,7 +199,7 @@ byte_read b from p bytes rest front small = by_plain (is_plain b) refl
         ap (go_on (p + 1 + 1 + 1) rest) (step_second (p + 1 + 1) (b / 16) (b % 16) b from bytes front d2.0 d2.1 whole h) ∙
         place _ _ rest front (Quoted from (bytes ++ b ∷ [])) (omega arith)
 
-bytes_read : (more rest : List ℕ) (from p : ℕ) (bytes : List ℕ) (front : Front) → AreBytes more →
+pub bytes_read : (more rest : List ℕ) (from p : ℕ) (bytes : List ℕ) (front : Front) → AreBytes more →
     read_from p (flat_map string_byte more ++ rest) front (Quoted from bytes) ≡
     read_from (p + length (flat_map string_byte more)) rest front (Quoted from (bytes ++ more))
 bytes_read [] rest from p bytes front h =

@@ -52,7 +52,7 @@ closed_text text front r real =
           subst (λ f. read_from (length text) (closers f) f Between ≡ Ok (items_of all.0)) real.1 all.1),
     )
 
-read_here : (text : List ℕ) (front : Front) (mode : Mode) → Reach text front mode → read text ≡ finish (length text) front mode
+pub read_here : (text : List ℕ) (front : Front) (mode : Mode) → Reach text front mode → read text ≡ finish (length text) front mode
 read_here text front mode r = ap read (sym (append-nil text)) ∙ reach_read text [] front mode r
 
 -- where the bytes before a place end: before the list, inside lists or after the list
@@ -267,13 +267,13 @@ between_kept text b front next h e = by_white (is_white b) e
     by_white true e = let i : (front, Between) ≡ next = cc in subst P i tt
     by_white false e = by_comment (eqb b 59) e
 
-flat_map-push : (bytes : List ℕ) (c : ℕ) → flat_map string_byte (bytes ++ c ∷ []) ≡ flat_map string_byte bytes ++ string_byte c
+pub flat_map-push : (bytes : List ℕ) (c : ℕ) → flat_map string_byte (bytes ++ c ∷ []) ≡ flat_map string_byte bytes ++ string_byte c
 flat_map-push bytes c = flat_map-append string_byte bytes (c ∷ []) ∙ ap (λ ys. flat_map string_byte bytes ++ ys) (append-nil (string_byte c))
 
-plain_byte : (b : ℕ) → is_plain b ≡ true → string_byte b ≡ b ∷ []
+pub plain_byte : (b : ℕ) → is_plain b ≡ true → string_byte b ≡ b ∷ []
 plain_byte b h = rw h refl
 
-plain_below : (b : ℕ) → is_plain b ≡ true → b < 256
+pub plain_below : (b : ℕ) → is_plain b ≡ true → b < 256
 unfolding is_plain
 plain_below b h = grind (arith, nat_tests)
 
@@ -320,7 +320,7 @@ escape_kept text b from bytes front next k h e = by_first (begins_escape b) refl
     by_first false t e = cc
 
 -- the byte that an escape stands for, and its digits
-escape_byte : (d b : ℕ) → begins_escape d ≡ true → is_hex b ≡ true → is_plain (16 * hex_value d + hex_value b) ≡ false →
+pub escape_byte : (d b : ℕ) → begins_escape d ≡ true → is_hex b ≡ true → is_plain (16 * hex_value d + hex_value b) ≡ false →
     string_byte (16 * hex_value d + hex_value b) ≡ 92 ∷ d ∷ b ∷ []
 escape_byte d b h k n =
     let first = char_of_digit d (begins_escape-hex d h) in
@@ -717,7 +717,7 @@ run_here text rest from run front real some ends k =
     }
 
 -- a run with a fault is refused, whatever follows it
-run_bad : (text run more : List ℕ) (front : Front) (fault : TextFault) → Reach text front Between → known.IsInside front → AreRun run → 0 < length run →
+pub run_bad : (text run more : List ℕ) (front : Front) (fault : TextFault) → Reach text front Between → known.IsInside front → AreRun run → 0 < length run →
     run_items (length text) run ≡ Err fault → read ((text ++ run) ++ more) ≡ Err fault
 run_bad text [] more front fault r i bytes some e = absurd (omega arith)
 run_bad text (b ∷ bs) more front fault r i bytes some e =

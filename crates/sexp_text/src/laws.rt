@@ -60,6 +60,12 @@ pub fn longest_reading()
     ensures cut { (text : List ℕ) (at : ℕ) → read text ≡ refused at End → IsCut text }
 {}
 
+/// A text is refused so at most once, and reading gives that fault.
+pub fn refused_once()
+    ensures read { (text : List ℕ) (fault : TextFault) → Refusal text fault → read text ≡ Err fault }
+    ensures once { (text : List ℕ) (fault other : TextFault) → Refusal text fault → Refusal text other → fault ≡ other }
+{}
+
 /// A run that is no word is refused after its longest front that is one.
 pub fn longest_word()
     ensures word { (run : List ℕ) → (word_end run ≡ 0) ⊎ IsWord (take (word_end run) run) }

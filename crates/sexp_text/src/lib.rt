@@ -13,8 +13,8 @@ mod step;
 
 pub use fault::{TextFault, TextWord};
 pub use laws::{
-    longest_reading, longest_word, one_value, printed_again, printed_alike, spelled_is_read,
-    value_or_fault,
+    longest_reading, longest_word, one_value, printed_again, printed_alike, refused_once,
+    spelled_is_read, value_or_fault,
 };
 pub use print::print_sexp;
 pub use read::read_sexp;
