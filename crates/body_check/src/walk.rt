@@ -1,6 +1,7 @@
 // The walk over a body, forwards and once.
 
-ghost use Rattle.std.specs.Prelude.{◌≡◌, [], ◌∷◌, ◌++◌, true, false, Some, None, List, IfOk, OnOk};
+ghost use Rattle.std.specs.Prelude.{◌≡◌, ◌<◌, [], ◌∷◌, ◌++◌, true, false, Some, None, List, IfOk, OnOk};
+ghost use Rattle.std.specs.Vec.{vec_len, vec_capacity};
 ghost use Rattle.wasm_syntax.specs.declared.flat.Flat.{Flat};
 ghost use Rattle.wasm_syntax.specs.Parts.{Part, own};
 ghost use Rattle.wasm_typing.specs.Typing.{Types, Context, types_of};
@@ -97,6 +98,17 @@ fn push_open(opens: &mut Vec<Open>, block: Open) -> Result<(), OutOfMemory>
     }
 }
 
+// Room comes before the block is made: a block that can still be refused is moved in pieces.
+fn make_room(opens: &mut Vec<Open>) -> Result<(), OutOfMemory>
+    ensures items { opens.new.items ≡ opens.old.items }
+    ensures room { OnOk result (vec_len opens.new < vec_capacity opens.new) }
+{
+    match opens.reserve(1) {
+        Ok(()) => Ok(()),
+        Err(_) => Err(OutOfMemory),
+    }
+}
+
 impl Walk {
     /// At the head of a body with these results.
     pub fn new(alloc: Global, results: Option<ValType>) -> Result<Walk, OutOfMemory>
@@ -121,13 +133,13 @@ impl Walk {
             return Ok(false);
         }
         push_label(&mut self.labels, label_type(head))?;
+        make_room(&mut self.opens)?;
         let below = std::mem::replace(&mut self.operands, Operands::new(alloc));
-        let open = Open {
+        self.opens.push_reserved(Open {
             head,
             turned: false,
             below,
-        };
-        push_open(&mut self.opens, open)?;
+        });
         Ok(true)
     }
 
