@@ -117,22 +117,22 @@ fn read_simple(
         Opcode::Drop => Ok((Item::plain(Plain::Drop), bytes)),
         Opcode::Select => Ok((Item::plain(Plain::Select), bytes)),
         Opcode::Num(op) => Ok((Item::num(op), bytes)),
-        Opcode::MemorySize => {
-            let (_, rest) = read_tag(0, bytes, end)?;
-            Ok((Item::plain(Plain::MemorySize), rest))
-        }
-        Opcode::MemoryGrow => {
-            let (_, rest) = read_tag(0, bytes, end)?;
-            Ok((Item::plain(Plain::MemoryGrow), rest))
-        }
-        Opcode::I32Const => {
-            let (value, rest) = read_word32(bytes, end)?;
-            Ok((Item::constant(Val::I32(value)), rest))
-        }
-        Opcode::I64Const => {
-            let (value, rest) = read_word64(bytes, end)?;
-            Ok((Item::constant(Val::I64(value)), rest))
-        }
+        Opcode::MemorySize => read_tag(0, bytes, end).map(|(_, rest)| (
+            Item::plain(Plain::MemorySize),
+            rest,
+        )),
+        Opcode::MemoryGrow => read_tag(0, bytes, end).map(|(_, rest)| (
+            Item::plain(Plain::MemoryGrow),
+            rest,
+        )),
+        Opcode::I32Const => read_word32(bytes, end).map(|(x, rest)| (
+            Item::constant(Val::I32(x)),
+            rest,
+        )),
+        Opcode::I64Const => read_word64(bytes, end).map(|(x, rest)| (
+            Item::constant(Val::I64(x)),
+            rest,
+        )),
         _ => read_indexed(alloc, at, op, bytes, end),
     }
 }
@@ -175,18 +175,18 @@ fn read_op(
     ensures fits { IfOk result (λ x. FitsIn turn x.0) }
 {
     match op {
-        Opcode::Block => {
-            let (ty, rest) = read_head(full, at, bytes, end)?;
-            Ok((Item::head(Head::Block(ty)), rest))
-        }
-        Opcode::Loop => {
-            let (ty, rest) = read_head(full, at, bytes, end)?;
-            Ok((Item::head(Head::Loop(ty)), rest))
-        }
-        Opcode::If => {
-            let (ty, rest) = read_head(full, at, bytes, end)?;
-            Ok((Item::head(Head::If(ty)), rest))
-        }
+        Opcode::Block => read_head(full, at, bytes, end).map(|(ty, rest)| (
+            Item::head(Head::Block(ty)),
+            rest,
+        )),
+        Opcode::Loop => read_head(full, at, bytes, end).map(|(ty, rest)| (
+            Item::head(Head::Loop(ty)),
+            rest,
+        )),
+        Opcode::If => read_head(full, at, bytes, end).map(|(ty, rest)| (
+            Item::head(Head::If(ty)),
+            rest,
+        )),
         Opcode::Else if turn => Ok((Item::turn(), bytes)),
         Opcode::Else => Err(malformed(at, DecodeWord::Byte)),
         Opcode::End => Ok((Item::end(), bytes)),
