@@ -24,13 +24,14 @@ fn what_is_read<S: Shelf>(alloc: Global, shelf: &mut S, name: &str, limit: usize
 /// Files of which the first `a` has the bytes of `TEXT`, a second `a` has other bytes, and `b` has 5,000.
 fn files(alloc: Global) -> Result<Vec<(Text, Bytes)>, Fail> {
     let mut files = Vec::new(alloc);
-    let first = Bytes::from_vec(TEXT.to_vec(alloc)?);
-    files.push((Text::from_str(alloc, "a")?, first))?;
-    let second = Bytes::from_vec([1, 2].to_vec(alloc)?);
-    files.push((Text::from_str(alloc, "a")?, second))?;
-    let long = Bytes::from_vec(vec![in alloc; 7; 5000]?);
-    files.push((Text::from_str(alloc, "b")?, long))?;
+    files.push(file(alloc, "a", TEXT.to_vec(alloc)?)?)?;
+    files.push(file(alloc, "a", [1, 2].to_vec(alloc)?)?)?;
+    files.push(file(alloc, "b", vec![in alloc; 7; 5000]?)?)?;
     Ok(files)
+}
+
+fn file(alloc: Global, name: &str, bytes: Vec<u8>) -> Result<(Text, Bytes), Fail> {
+    Ok((Text::from_str(alloc, name)?, Bytes::from_vec(bytes)))
 }
 
 /// What two reads on a shelf of these files come to, whose call with a number fails, and its count of faults.

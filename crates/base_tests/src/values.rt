@@ -1,3 +1,4 @@
+use std::alloc::Global;
 use std::test::Fail;
 use wasm_values::{
     Bytes, IntOp, List, NumOp, Text, Val, Width, load_le, num1, num2, sext, store_le,
@@ -352,110 +353,190 @@ static ONE: [One; 4] = [
     },
 ];
 
-#[test]
-fn operators_of_two_operands(rt: HostRuntime) {
-    for row in &TWO {
-        let op = row.op;
-        assert!(rt; !op.is_unary(), "{op:?}");
-        for (i, (a, b)) in NARROW_PAIRS.iter().enumerate() {
-            let given = Width::<32>::two(op, u64::from(*a), u64::from(*b));
-            assert_eq!(rt;
-                given,
-                Some(row.narrow[i]),
-                "{op:?} at {a} and {b}, 32 bits"
-            );
-        }
-        for (i, (a, b)) in WIDE_PAIRS.iter().enumerate() {
-            let given = Width::<64>::two(op, *a, *b);
-            assert_eq!(rt; given, Some(row.wide[i]), "{op:?} at {a} and {b}, 64 bits");
+/// The first operands of 32 bits at which an operator of two does not give what is wanted.
+fn wrong_narrow(op: IntOp, pairs: &[(u32, u32)], wanted: &[u64]) -> Option<(IntOp, u64, u64)> {
+    for (i, (a, b)) in pairs.iter().enumerate() {
+        let (a, b) = (u64::from(*a), u64::from(*b));
+        if op.is_unary() || Width::<32>::two(op, a, b) != wanted.get(i).copied() {
+            return Some((op, a, b));
         }
     }
+    None
+}
+
+/// The first operands of 64 bits at which an operator of two does not give what is wanted.
+fn wrong_wide(op: IntOp, pairs: &[(u64, u64)], wanted: &[u64]) -> Option<(IntOp, u64, u64)> {
+    for (i, (a, b)) in pairs.iter().enumerate() {
+        if op.is_unary() || Width::<64>::two(op, *a, *b) != wanted.get(i).copied() {
+            return Some((op, *a, *b));
+        }
+    }
+    None
+}
+
+fn wrong_of_two(rows: &[Two]) -> Option<(IntOp, u64, u64)> {
+    for row in rows {
+        let narrow = wrong_narrow(row.op, &NARROW_PAIRS, &row.narrow);
+        if narrow.is_some() {
+            return narrow;
+        }
+        let wide = wrong_wide(row.op, &WIDE_PAIRS, &row.wide);
+        if wide.is_some() {
+            return wide;
+        }
+    }
+    None
+}
+
+#[test]
+fn operators_of_two_operands(rt: HostRuntime) {
+    assert_eq!(rt; wrong_of_two(&TWO), None);
+}
+
+fn wrong_narrow_division(rows: &[(IntOp, u32, u32, Option<u64>)]) -> Option<(IntOp, u32, u32)> {
+    for (op, a, b, wanted) in rows {
+        if op.is_unary() || Width::<32>::two(*op, u64::from(*a), u64::from(*b)) != *wanted {
+            return Some((*op, *a, *b));
+        }
+    }
+    None
+}
+
+fn wrong_wide_division(rows: &[(IntOp, u64, u64, Option<u64>)]) -> Option<(IntOp, u64, u64)> {
+    for (op, a, b, wanted) in rows {
+        if op.is_unary() || Width::<64>::two(*op, *a, *b) != *wanted {
+            return Some((*op, *a, *b));
+        }
+    }
+    None
 }
 
 #[test]
 fn quotients_and_remainders(rt: HostRuntime) {
-    for (op, a, b, wanted) in &NARROW_DIVISIONS {
-        assert!(rt; !op.is_unary(), "{op:?}");
-        let given = Width::<32>::two(*op, u64::from(*a), u64::from(*b));
-        assert_eq!(rt; given, *wanted, "{op:?} at {a} and {b}, 32 bits");
+    assert_eq!(rt; wrong_narrow_division(&NARROW_DIVISIONS), None);
+    assert_eq!(rt; wrong_wide_division(&WIDE_DIVISIONS), None);
+}
+
+/// The first number of 32 or of 64 bits at which an operator of one operand does not give what is wanted.
+fn wrong_of_one(rows: &[One]) -> Option<(IntOp, u64)> {
+    for row in rows {
+        let op = row.op;
+        for (i, a) in NARROW.iter().enumerate() {
+            let a = u64::from(*a);
+            if !op.is_unary() || Width::<32>::one(op, a) != row.narrow[i] {
+                return Some((op, a));
+            }
+        }
+        for (i, a) in WIDE.iter().enumerate() {
+            if !op.is_unary() || Width::<64>::one(op, *a) != row.wide[i] {
+                return Some((op, *a));
+            }
+        }
     }
-    for (op, a, b, wanted) in &WIDE_DIVISIONS {
-        assert!(rt; !op.is_unary(), "{op:?}");
-        assert_eq!(rt;
-            Width::<64>::two(*op, *a, *b),
-            *wanted,
-            "{op:?} at {a} and {b}, 64 bits"
-        );
-    }
+    None
 }
 
 #[test]
 fn operators_of_one_operand(rt: HostRuntime) {
-    for row in &ONE {
-        let op = row.op;
-        assert!(rt; op.is_unary(), "{op:?}");
-        for (i, a) in NARROW.iter().enumerate() {
-            assert_eq!(rt;
-                Width::<32>::one(op, u64::from(*a)),
-                row.narrow[i],
-                "{op:?} at {a}, 32 bits"
-            );
-        }
-        for (i, a) in WIDE.iter().enumerate() {
-            assert_eq!(rt;
-                Width::<64>::one(op, *a),
-                row.wide[i],
-                "{op:?} at {a}, 64 bits"
-            );
-        }
-    }
+    assert_eq!(rt; wrong_of_one(&ONE), None);
 }
 
 #[test]
-fn instructions_and_bytes(rt: HostRuntime) {
+fn instructions(rt: HostRuntime) {
     let minus_one = Val::I32(0xffff_ffff);
-    assert_eq!(rt;
-        num1(NumOp::ExtendS, minus_one),
-        Val::I64(0xffff_ffff_ffff_ffff)
-    );
-    assert_eq!(rt; num1(NumOp::ExtendU, minus_one), Val::I64(0xffff_ffff));
-    assert_eq!(rt;
-        num1(NumOp::Wrap, Val::I64(0x1_2345_6789)),
-        Val::I32(0x2345_6789)
-    );
-    assert_eq!(rt; num1(NumOp::W64(IntOp::Eqz), Val::I64(0)), Val::I32(1));
     let one = Val::I64(1);
-    assert_eq!(rt; num2(NumOp::W64(IntOp::LtS), one, one), Some(Val::I32(0)));
-    assert_eq!(rt; num2(NumOp::W64(IntOp::Add), one, one), Some(Val::I64(2)));
-    assert_eq!(rt; num2(NumOp::W32(IntOp::DivU), minus_one, Val::I32(0)), None);
-    assert_eq!(rt; sext(8, 32, 0x80), 0xffff_ff80);
-    assert_eq!(rt; sext(16, 64, 0x7fff), 0x7fff);
-    assert_eq!(rt; load_le(&[0x34, 0x12]), 0x1234);
+    let unary = [
+        num1(NumOp::ExtendS, minus_one),
+        num1(NumOp::ExtendU, minus_one),
+        num1(NumOp::Wrap, Val::I64(0x1_2345_6789)),
+        num1(NumOp::W64(IntOp::Eqz), Val::I64(0)),
+    ];
+    let binary = [
+        num2(NumOp::W64(IntOp::LtS), one, one),
+        num2(NumOp::W64(IntOp::Add), one, one),
+        num2(NumOp::W32(IntOp::DivU), minus_one, Val::I32(0)),
+    ];
+    assert_eq!(rt;
+        unary,
+        [
+            Val::I64(0xffff_ffff_ffff_ffff),
+            Val::I64(0xffff_ffff),
+            Val::I32(0x2345_6789),
+            Val::I32(1),
+        ]
+    );
+    assert_eq!(rt; binary, [Some(Val::I32(0)), Some(Val::I64(2)), None]);
+}
+
+#[test]
+fn bytes_of_numbers(rt: HostRuntime) {
     let mut into = [0; 2];
     store_le(0x12_3456, &mut into);
     assert_eq!(rt; into, [0x56, 0x34]);
+    assert_eq!(rt;
+        [
+            sext(8, 32, 0x80),
+            sext(16, 64, 0x7fff),
+            load_le(&[0x34, 0x12])
+        ],
+        [0xffff_ff80, 0x7fff, 0x1234]
+    );
 }
 
-#[test]
-fn lists_bytes_and_texts(rt: HostRuntime) -> Result<(), Fail> {
-    let alloc = rt.alloc();
+fn spelled(alloc: Global) -> Result<Bytes, Fail> {
     let mut bytes = Bytes::new(alloc);
     bytes.push(b'o')?;
     bytes.push(b'k')?;
-    assert!(rt; bytes.copy(alloc)? == bytes);
-    let text = Text::from_str(alloc, "ok")?;
-    assert!(rt; text.copy(alloc)? == text);
-    assert_eq!(rt; text.as_str().as_bytes(), bytes.as_slice());
+    Ok(bytes)
+}
+
+#[test]
+fn copies_of_bytes(rt: HostRuntime) -> Result<(), Fail> {
+    let bytes = spelled(rt.alloc())?;
+    assert!(rt; bytes.copy(rt.alloc())? == bytes);
+    assert!(rt; bytes.as_slice() == b"ok".as_slice());
+    Ok(())
+}
+
+#[test]
+fn copies_of_texts(rt: HostRuntime) -> Result<(), Fail> {
+    let text = Text::from_str(rt.alloc(), "ok")?;
+    assert!(rt; text.copy(rt.alloc())? == text);
+    assert_eq!(rt; text.as_str(), "ok");
+    Ok(())
+}
+
+/// The two bytes of `ok`, and the bytes 1 and 2.
+fn pair(alloc: Global) -> Result<List<Bytes>, Fail> {
     let mut list = List::new(alloc);
-    list.push(bytes)?;
+    list.push(spelled(alloc)?)?;
     list.push(Bytes::from_vec(vec![in alloc; 1, 2]?))?;
-    let mut copied = list.copy(alloc)?;
-    assert!(rt; copied == list);
-    copied.truncate(1);
-    assert_eq!(rt; copied.len(), 1);
-    assert!(rt; copied.pop().is_some() && copied.pop().is_none());
-    let mut texts = List::from_vec(Vec::new(alloc));
-    texts.push(text)?;
-    assert_eq!(rt; texts.copy(alloc)?.into_vec().len(), 1);
+    Ok(list)
+}
+
+#[test]
+fn copies_of_lists(rt: HostRuntime) -> Result<(), Fail> {
+    let list = pair(rt.alloc())?;
+    assert!(rt; list.copy(rt.alloc())? == list);
+    Ok(())
+}
+
+/// How many items are left of a list that is cut to one, and whether one can be taken off it, twice.
+fn cut(mut list: List<Bytes>) -> (usize, bool, bool) {
+    list.truncate(1);
+    (list.len(), list.pop().is_some(), list.pop().is_some())
+}
+
+#[test]
+fn a_list_is_cut(rt: HostRuntime) -> Result<(), Fail> {
+    assert_eq!(rt; cut(pair(rt.alloc())?), (1, true, false));
+    Ok(())
+}
+
+#[test]
+fn a_list_of_texts_is_copied(rt: HostRuntime) -> Result<(), Fail> {
+    let mut texts = List::from_vec(Vec::new(rt.alloc()));
+    texts.push(Text::from_str(rt.alloc(), "ok")?)?;
+    assert_eq!(rt; texts.copy(rt.alloc())?.into_vec().len(), 1);
     Ok(())
 }
