@@ -1,0 +1,18 @@
+//! Laws over the definitions alone, for the crates above.
+
+ghost use Rattle.std.specs.Prelude.{◌≡◌, ℕ};
+ghost use Rattle.wasm_syntax.specs.declared.module.Module.{Module};
+ghost use Rattle.step_bound.specs.Bounds.{FunctionBound};
+ghost use Rattle.step_bound.specs.Runs.{BoundsHold, RunsGoOn};
+
+/// A function has at most one bound.
+pub fn bounds_are_unique()
+    ensures { (m : Module) (k a b : ℕ) → FunctionBound m k a → FunctionBound m k b → a ≡ b }
+{}
+
+/// In every list of as many steps as a function's bound says, from its entry on, its frame has left or there is a trap,
+/// whichever other modules and hosts there are; and until then a typed configuration has a next step.
+pub fn bounded_functions_leave()
+    ensures within { BoundsHold }
+    ensures going { RunsGoOn }
+{}
