@@ -1,3 +1,4 @@
 pub mod Parts
 pub mod Staying
 pub mod Falling
+pub mod Sums

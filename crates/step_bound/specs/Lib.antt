@@ -1,2 +1,4 @@
 pub mod Bounds
+pub mod Told
 pub mod Runs
+pub mod words

@@ -1,4 +1,8 @@
 //! Bounds on the steps that functions take. Sections are those of the WebAssembly Core Specification 1.0.
 #![tactic(auto)]
 
+mod bound;
 pub mod laws;
+mod walk;
+
+pub use bound::{Bound, MAX_STEPS};

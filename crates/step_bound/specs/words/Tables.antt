@@ -1,0 +1,22 @@
+-- What is known of bounds while they are sought.
+use Rattle.std.specs.Prelude.{◌≡◌, ℕ, List, Option, Some, None, is_none, length, count_by, slice_get}
+use Rattle.wasm_syntax.specs.declared.module.Func.{Func}
+use Rattle.wasm_syntax.specs.declared.module.Module.{Module}
+use Rattle.step_bound.specs.Bounds.{imported_funcs, FunctionBound}
+use Rattle.step_bound.specs.words.Sums.{capped, known_at, called, body_bound}
+
+-- What is known of a module's functions is right: there is an entry for each, and a number there is the function's bound, or
+-- one above the greatest that is told.
+pub record IsRight (m : Module) (bounds : List (Option ℕ)) : Type 0 where
+  pub count : length bounds ≡ length m.funcs
+  pub each : (k n : ℕ) → known_at bounds k ≡ Some n → (b : ℕ) × FunctionBound m k b × (n ≡ capped b)
+
+-- A function is settled: its bound is known, or a `loop`, a `call_indirect` or a call of a function of which none is known
+-- stands in its body.
+abbrev pub IsSettled : Module → List (Option ℕ) → ℕ → Type 0
+IsSettled m bounds k =
+    (f : Func) → slice_get m.funcs k ≡ Some f → known_at bounds k ≡ None → body_bound (called (imported_funcs m) bounds) f.body ≡ None
+
+-- How many bounds are not known.
+abbrev pub missing : List (Option ℕ) → ℕ
+missing bounds = count_by is_none bounds
