@@ -2,3 +2,5 @@ pub mod Parts
 pub mod Staying
 pub mod Falling
 pub mod Sums
+pub mod Tables
+pub mod Answering

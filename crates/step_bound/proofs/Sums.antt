@@ -1,6 +1,6 @@
 -- What the walk over a body sums is what its tree sums.
-use Rattle.std.proofs.Common.{◌≡◌, ℕ, zero, suc, ◌+◌, ◌-◌, ◌<◌, ◌≤◌, true, List, [], ◌∷◌, ◌++◌, Option, Some, None, length, drop, get_or, slice_get, refl, sym, ap, ◌∙◌, arith, append_assoc, length-append}
-use Rattle.std.specs.Prelude.{option_map, option_and_then, IsTrue}
+use Rattle.std.proofs.Common.{◌≡◌, ℕ, zero, suc, ◌+◌, ◌-◌, ◌<◌, ◌≤◌, List, [], ◌∷◌, ◌++◌, Option, Some, None, length, drop, slice_get, refl, sym, ap, ◌∙◌, arith, append_assoc, length-append}
+use Rattle.std.specs.Prelude.{option_map, option_and_then}
 use Rattle.std.proofs.lemmas.Option.{get_or_from_slice_get, slice_get_within}
 use Rattle.std.proofs.lemmas.List.{append-nil, at_drop_more, at_drop_all}
 use Rattle.wasm_syntax.specs.declared.instr.Instr.{Instr}
@@ -61,7 +61,7 @@ module _ (known : ℕ → Option ℕ) where
       → ((ys : List Flat) → walked_all known (begun (at steps around)) (form.flat is ++ ys) ≡ option_and_then (further (record { before = steps; first = 0 } ∷ around) ys) o)
       → ((n : ℕ) (ys : List Flat) → walked_all known (at 0 (record { before = steps; first = n } ∷ around)) (form.flat others ++ ys) ≡ option_and_then (further (record { before = steps; first = n } ∷ around) ys) p)
       → walked_all known (at steps around) ((flat.If ty ∷ (form.flat is ++ flat.Else ∷ (form.flat others ++ flat.End ∷ []))) ++ xs)
-          ≡ option_and_then (further around xs) (option_and_then (λ n. option_map (joined steps n) p) o)
+      ≡ option_and_then (further around xs) (option_and_then (λ n. option_map (joined steps n) p) o)
   two_sided steps around ty is others xs o p first second =
       ap (walked_all known (begun (at steps around))) (append_assoc (form.flat is) (flat.Else ∷ (form.flat others ++ flat.End ∷ [])) xs)
       ∙ first (flat.Else ∷ ((form.flat others ++ flat.End ∷ []) ++ xs))

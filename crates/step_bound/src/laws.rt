@@ -3,11 +3,14 @@
 ghost use Rattle.std.specs.Prelude.{◌≡◌, ℕ};
 ghost use Rattle.wasm_syntax.specs.declared.module.Module.{Module};
 ghost use Rattle.step_bound.specs.Bounds.{FunctionBound};
+ghost use Rattle.step_bound.specs.declared.bound.Bound.{Bound};
+ghost use Rattle.step_bound.specs.Told.{IsBoundOf};
 ghost use Rattle.step_bound.specs.Runs.{BoundsHold, RunsGoOn};
 
-/// A function has at most one bound.
+/// A function has at most one bound, and one answer alone tells of it.
 pub fn bounds_are_unique()
-    ensures { (m : Module) (k a b : ℕ) → FunctionBound m k a → FunctionBound m k b → a ≡ b }
+    ensures bound { (m : Module) (k a b : ℕ) → FunctionBound m k a → FunctionBound m k b → a ≡ b }
+    ensures answer { (m : Module) (k : ℕ) (a b : Bound) → IsBoundOf m k a → IsBoundOf m k b → a ≡ b }
 {}
 
 /// In every list of as many steps as a function's bound says, from its entry on, its frame has left or there is a trap,

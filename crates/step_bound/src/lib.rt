@@ -2,7 +2,9 @@
 #![tactic(auto)]
 
 mod bound;
+mod follow;
 pub mod laws;
+mod table;
 mod walk;
 
-pub use bound::{Bound, MAX_STEPS};
+pub use bound::{Bound, MAX_STEPS, step_bounds};

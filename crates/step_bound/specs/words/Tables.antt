@@ -1,7 +1,10 @@
 -- What is known of bounds while they are sought.
-use Rattle.std.specs.Prelude.{◌≡◌, ℕ, List, Option, Some, None, is_none, length, count_by, slice_get}
+use Rattle.std.specs.Prelude.{◌≡◌, ℕ, ◌<◌, nat_le, Bool, true, false, if◌then◌else◌, List, Option, Some, None, is_none, length, count_by, slice_get}
 use Rattle.wasm_syntax.specs.declared.module.Func.{Func}
 use Rattle.wasm_syntax.specs.declared.module.Module.{Module}
+use Rattle.step_bound.specs.declared.bound.Bound.{Bound}
+use Rattle.step_bound.specs.declared.bound.Bound.TheVariants.{Steps, Over, Unbounded}
+use Rattle.step_bound.specs.declared.bound.TheConstants.{MAX_STEPS}
 use Rattle.step_bound.specs.Bounds.{imported_funcs, FunctionBound}
 use Rattle.step_bound.specs.words.Sums.{capped, known_at, called, body_bound}
 
@@ -20,3 +23,18 @@ IsSettled m bounds k =
 -- How many bounds are not known.
 abbrev pub missing : List (Option ℕ) → ℕ
 missing bounds = count_by is_none bounds
+
+-- What is known after a function was tried: one bound more, or nothing more, and the function was settled.
+abbrev pub Settles : (found : Bool) → Module → (old new : List (Option ℕ)) → ℕ → Type 0
+Settles true m old new k = missing new < missing old
+Settles false m old new k = (new ≡ old) × IsSettled m old k
+
+-- What is known after all functions before one were tried: more than before, or nothing more, and they are settled.
+abbrev pub Rounds : (found : Bool) → Module → (old new : List (Option ℕ)) → ℕ → Type 0
+Rounds true m old new k = missing new < missing old
+Rounds false m old new k = (new ≡ old) × ((j : ℕ) → j < k → IsSettled m old j)
+
+-- What is told of what is known.
+abbrev pub told_of : Option ℕ → Bound
+told_of None = Unbounded
+told_of (Some n) = if nat_le n MAX_STEPS then Steps n else Over

@@ -1,6 +1,6 @@
-use Rattle.std.proofs.Common.{◌≡◌, ℕ, ◌-◌, ◌<◌, ◌≤◌, Bool, true, false, Option, Some, None, length, refl, sym, ap, ◌∙◌, arith, cond}
+use Rattle.std.proofs.Common.{◌≡◌, ◌-◌, ◌<◌, ◌≤◌, Some, None, length, sym, arith}
 use Rattle.wasm_syntax.specs.FlatForm.{flat_body}
-use Rattle.step_bound.specs.words.Sums.{called, sums_of, Sums, walked}
+use Rattle.step_bound.specs.words.Sums.{called, sums_of, walked}
 use Rattle.step_bound.proofs.Sums.{stops, goes_on, is_over}
 use Rattle.step_bound.proofs.walk.body_sum.Goals as goal
 
