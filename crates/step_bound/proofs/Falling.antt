@@ -27,8 +27,7 @@ use Rattle.type_safety.proofs.Lists.{same_some}
 use Rattle.type_safety.proofs.Progressing.{progress}
 use Rattle.type_safety.proofs.Preserving.{preservation}
 use Rattle.step_bound.specs.Bounds.{imported_funcs, InstructionBound, SequenceBound, nothing, FunctionBound}
-use Rattle.step_bound.specs.Runs as runs
-use Rattle.step_bound.specs.Runs.{IsInstanceOf, HasEntered, HasLeft, AreSteps, BoundsHold, RunsGoOn, last_of}
+use Rattle.step_bound.specs.Runs.{IsInstanceOf, HasEntered, HasLeft, AreSteps, LeavesIn, BoundsHold, RunsGoOn, last_of}
 use Rattle.step_bound.proofs.Parts.{then_parts, function_parts, call_parts, block_part, loop_none, indirect_none, if_part, if_else_parts, single_is}
 use Rattle.step_bound.proofs.Staying.{Stays, traps, stays, at_trap, at_going, at_drop, at_select, at_num, at_local_get, at_local_set, at_local_tee, at_global_get, at_global_set, at_load, at_store, at_size, at_grow}
 
@@ -236,14 +235,14 @@ still_of m i c d of h =
 -- ---- lists of steps
 
 -- After a first step, where the frames leave in the steps after it.
-runs_on : (m : Module) (i : ℕ) (below : List Layer) (d : Configuration) (ds : List Configuration) (n : ℕ) → n ≤ length (d ∷ ds) → ((g : Activation) (gs : List Activation) (p : ℕ) → d.frames ≡ over (g ∷ gs) below → FramesBound m i (g ∷ gs) p → p ≤ length ds → runs.Leaves below ds) → After m i below n d → runs.Leaves below (d ∷ ds)
+runs_on : (m : Module) (i : ℕ) (below : List Layer) (d : Configuration) (ds : List Configuration) (n : ℕ) → n ≤ length (d ∷ ds) → ((g : Activation) (gs : List Activation) (p : ℕ) → d.frames ≡ over (g ∷ gs) below → FramesBound m i (g ∷ gs) p → p ≤ length ds → LeavesIn below ds) → After m i below n d → LeavesIn below (d ∷ ds)
 runs_on m i below d ds n few later (left h) = (0, d, refl, inl h)
 runs_on m i below d ds n few later (trap e) = (0, d, refl, inr e)
 runs_on m i below d ds n few later (on g gs p next y less) =
     let r = later g gs p next y (omega arith) in
     (suc r.0, r.1, r.2, r.3)
 
-run : (m : Module) (i : ℕ) (below : List Layer) (ds : List Configuration) (c : Configuration) → IsInstanceOf m c.store i → (f : Activation) (fs : List Activation) (n : ℕ) → c.frames ≡ over (f ∷ fs) below → FramesBound m i (f ∷ fs) n → AreSteps c ds → n ≤ length ds → runs.Leaves below ds
+run : (m : Module) (i : ℕ) (below : List Layer) (ds : List Configuration) (c : Configuration) → IsInstanceOf m c.store i → (f : Activation) (fs : List Activation) (n : ℕ) → c.frames ≡ over (f ∷ fs) below → FramesBound m i (f ∷ fs) n → AreSteps c ds → n ≤ length ds → LeavesIn below ds
 run m i below [] c of f fs n frames x steps few = absurd (omega (arith, x.4, x.2.is))
 run m i below (d ∷ ds) c of f fs n frames x steps few =
     runs_on m i below d ds n few (λ g gs p next y less. run m i below ds d (still_of m i c d of steps.0) g gs p next y steps.1 less)
@@ -296,16 +295,16 @@ steps_on c f others t is =
     runs_still (Done values) e h = absurd (no_frames (sym h.0 ∙ e))
     runs_still Trapped e h = absurd (no_frames (sym h ∙ e))
 
-go_on_after : (below : List Layer) (m : Module) (i n : ℕ) (d : Configuration) (ds : List Configuration) → ((g : Activation) (gs : List Activation) (p : ℕ) → d.frames ≡ over (g ∷ gs) below → FramesBound m i (g ∷ gs) p → runs.Leaves below ds ⊎ CanStep (last_of d ds)) → After m i below n d → runs.Leaves below (d ∷ ds) ⊎ CanStep (last_of d ds)
+go_on_after : (below : List Layer) (m : Module) (i n : ℕ) (d : Configuration) (ds : List Configuration) → ((g : Activation) (gs : List Activation) (p : ℕ) → d.frames ≡ over (g ∷ gs) below → FramesBound m i (g ∷ gs) p → LeavesIn below ds ⊎ CanStep (last_of d ds)) → After m i below n d → LeavesIn below (d ∷ ds) ⊎ CanStep (last_of d ds)
 go_on_after below m i n d ds later (left h) = inl (0, d, refl, inl h)
 go_on_after below m i n d ds later (trap e) = inl (0, d, refl, inr e)
 go_on_after below m i n d ds later (on g gs p next y less) = further (later g gs p next y)
   where
-    further : runs.Leaves below ds ⊎ CanStep (last_of d ds) → runs.Leaves below (d ∷ ds) ⊎ CanStep (last_of d ds)
+    further : LeavesIn below ds ⊎ CanStep (last_of d ds) → LeavesIn below (d ∷ ds) ⊎ CanStep (last_of d ds)
     further (inl r) = inl (suc r.0, r.1, r.2, r.3)
     further (inr s) = inr s
 
-go_on : (m : Module) (i : ℕ) (below : List Layer) (ds : List Configuration) (c : Configuration) → IsInstanceOf m c.store i → (f : Activation) (fs : List Activation) (n : ℕ) → c.frames ≡ over (f ∷ fs) below → FramesBound m i (f ∷ fs) n → Typed c → AreSteps c ds → runs.Leaves below ds ⊎ CanStep (last_of c ds)
+go_on : (m : Module) (i : ℕ) (below : List Layer) (ds : List Configuration) (c : Configuration) → IsInstanceOf m c.store i → (f : Activation) (fs : List Activation) (n : ℕ) → c.frames ≡ over (f ∷ fs) below → FramesBound m i (f ∷ fs) n → Typed c → AreSteps c ds → LeavesIn below ds ⊎ CanStep (last_of c ds)
 go_on m i below [] c of f fs n frames x t steps = inr (steps_on c f (over fs below) t frames)
 go_on m i below (d ∷ ds) c of f fs n frames x t steps =
     go_on_after below m i n d ds

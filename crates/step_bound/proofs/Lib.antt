@@ -4,3 +4,4 @@ pub mod Falling
 pub mod Sums
 pub mod Tables
 pub mod Answering
+pub mod Existing

@@ -46,15 +46,15 @@ AreSteps c [] = Unit {0}
 AreSteps c (d ∷ ds) = Step c d × AreSteps d ds
 
 -- In one of these configurations the frame over these others has left, or the outcome is a trap.
-abbrev pub Leaves : List Layer → List Configuration → Type 0
-Leaves below ds = (n : ℕ) × (d : Configuration) × (slice_get ds n ≡ Some d) × (HasLeft below d ⊎ (d.outcome ≡ Trapped))
+abbrev pub LeavesIn : List Layer → List Configuration → Type 0
+LeavesIn below ds = (n : ℕ) × (d : Configuration) × (slice_get ds n ≡ Some d) × (HasLeft below d ⊎ (d.outcome ≡ Trapped))
 
 -- In every list of as many steps as the bound of a function says, from the entry of a frame for that function on, the frame
 -- has left, or there is a trap. The configuration may be any, and so may the other modules and hosts in it.
 abbrev pub BoundsHold : Type 0
 BoundsHold =
     (m : Module) (k bound : ℕ) (c : Configuration) (below : List Layer) (ds : List Configuration)
-    → FunctionBound m k bound → HasEntered m k c below → AreSteps c ds → length ds ≡ bound → Leaves below ds
+    → FunctionBound m k bound → HasEntered m k c below → AreSteps c ds → length ds ≡ bound → LeavesIn below ds
 
 -- The last of these configurations, or this one where there are none.
 abbrev pub last_of : Configuration → List Configuration → Configuration
@@ -66,4 +66,4 @@ last_of c (d ∷ ds) = last_of d ds
 abbrev pub RunsGoOn : Type 0
 RunsGoOn =
     (m : Module) (k bound : ℕ) (c : Configuration) (below : List Layer) (ds : List Configuration)
-    → FunctionBound m k bound → Typed c → HasEntered m k c below → AreSteps c ds → Leaves below ds ⊎ CanStep (last_of c ds)
+    → FunctionBound m k bound → Typed c → HasEntered m k c below → AreSteps c ds → LeavesIn below ds ⊎ CanStep (last_of c ds)

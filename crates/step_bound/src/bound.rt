@@ -27,8 +27,8 @@ pub enum Bound {
     Unbounded,
 }
 
-/// How many functions a module imports.
-fn imported_funcs(module: &Module) -> usize
+/// How many functions a module imports: the numbers of those that it defines begin there.
+pub fn imported_funcs(module: &Module) -> usize
     ensures { result ≡ imported_funcs «module».now }
 {
     module

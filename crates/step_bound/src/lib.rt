@@ -7,4 +7,4 @@ pub mod laws;
 mod table;
 mod walk;
 
-pub use bound::{Bound, MAX_STEPS, step_bounds};
+pub use bound::{Bound, MAX_STEPS, imported_funcs, step_bounds};

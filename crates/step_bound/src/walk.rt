@@ -54,6 +54,13 @@ fn add(sum: u64, n: u64) -> u64
     sum.saturating_add(n).min(MAX_STEPS + 1)
 }
 
+/// A sum with a call of a function that has this bound.
+fn add_call(sum: u64, n: u64) -> u64
+    ensures { result ≡ added (added sum 1) n }
+{
+    add(add(sum, 1), n)
+}
+
 impl Walk {
     /// The walk before a body.
     fn new(alloc: Global) -> Walk
@@ -108,7 +115,7 @@ impl Walk {
         match instr {
             Simple::Call(x) => match calls.bound(x) {
                 Some(n) => {
-                    self.steps = add(add(self.steps, 1), n);
+                    self.steps = add_call(self.steps, n);
                     true
                 }
                 None => false,
