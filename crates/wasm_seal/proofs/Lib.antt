@@ -1,0 +1,5 @@
+mod PartLaws
+mod NotesLaws
+mod ModuleLaws
+mod SplitLaws
+mod DigitLaws

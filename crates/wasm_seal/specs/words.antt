@@ -1,0 +1,2 @@
+-- Words of proofs and of private contracts.
+pub mod Parts

@@ -1,0 +1,23 @@
+// Laws over the definitions alone.
+
+ghost use Rattle.std.specs.Prelude.{◌≡◌, ◌≤◌, ℕ, List, length};
+ghost use Rattle.wasm_syntax.specs.declared.module.Module.{Module};
+ghost use Rattle.wasm_syntax.specs.declared.module.Marks.{Marks};
+ghost use Rattle.binary_grammar.specs.ModuleGrammar.{Spells};
+ghost use Rattle.wasm_seal.specs.Sealed.{sealed_file, Split, with_notes};
+
+use wasm_write::laws::numbers_are_spelled;
+
+/// A file is split in at most one way.
+pub fn one_split()
+    ensures { (file b c t u : List ℕ) → Split file b t → Split file c u → (b ≡ c) × (t ≡ u) }
+{}
+
+/// A module's bytes that are sealed with notes are split into them again, and spell the module with one custom section more.
+pub fn sealed_files()
+    ensures split { (bytes notes : List ℕ) (m : Module) (k : Marks) → Spells bytes m k → length notes ≤ 4294967282 → Split (sealed_file bytes notes) bytes notes }
+    ensures spelled { (bytes notes : List ℕ) (m : Module) (k : Marks) → Spells bytes m k → length notes ≤ 4294967282 →
+        (after : ℕ) × Spells (sealed_file bytes notes) (with_notes after notes m) (record k { len = length (sealed_file bytes notes) }) }
+{
+    numbers_are_spelled();
+}
