@@ -1,5 +1,6 @@
-mod PartLaws
-mod NotesLaws
-mod ModuleLaws
-mod SplitLaws
+pub mod PartLaws
+pub mod NotesLaws
+pub mod ModuleLaws
+pub mod SplitLaws
+pub mod DecideLaws
 mod DigitLaws

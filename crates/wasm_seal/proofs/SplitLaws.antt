@@ -1,9 +1,8 @@
 -- What each part of a split answers.
-use Rattle.std.proofs.Common.{◌≡◌, ℕ, ◌+◌, ◌-◌, ◌<◌, ◌≤◌, ◌==◌, true, false, eqb, List, [], ◌∷◌, ◌++◌, length, take, drop, get_or, Option, Some, None, refl, sym, ap, subst, ◌∙◌, append_assoc, arith}
+use Rattle.std.proofs.Common.{◌≡◌, ℕ, ◌+◌, ◌-◌, ◌<◌, ◌≤◌, true, false, eqb, List, [], ◌∷◌, ◌++◌, length, take, drop, get_or, Option, Some, None, refl, sym, ap, subst, ◌∙◌, append_assoc, arith}
 use Rattle.std.specs.Prelude.{IfSome, IfNone}
 use Rattle.std.specs.List.{concat}
 use Rattle.std.specs.Cmp.Lexicographic.{pointwise}
-use Rattle.std.proofs.lemmas.Bool.{eqb-true, eqb-false}
 use Rattle.std.proofs.lemmas.List.{length-append, append-nil, take_at, drop_at, take_rest, nil_from_length}
 use Rattle.std.proofs.lemmas.Slice.Eq.{bytes_eq-Decides}
 use Rattle.binary_grammar.specs.ModuleGrammar.{magic, version}
@@ -43,10 +42,10 @@ name_missing rest contents after h none notes k =
     let e = (sized_once rest contents after k.0 [] h k.1).0 in
     none notes (subst (λ c. BeginsSized c notes_name notes) (sym e) k.2)
 
-pub bytes_behind : (rest contents after : List ℕ) → (length after == 0) ≡ false → BeginsSized rest contents after → (notes : List ℕ) → NotesBehindId rest notes → ⊥
+pub bytes_behind : (rest contents after : List ℕ) → (length after ≡ 0 → ⊥) → BeginsSized rest contents after → (notes : List ℕ) → NotesBehindId rest notes → ⊥
 bytes_behind rest contents after some h notes k =
     let e = (sized_once rest contents after k.0 [] h k.1).1 in
-    eqb-false (length after) 0 some (ap length e)
+    some (ap length e)
 
 -- ---- the first byte
 
@@ -78,6 +77,10 @@ notes_found section notes some zero h at =
       sized = h.1;
       named = h.2;
     })
+
+-- notes in a section stand behind its first byte
+pub noted_behind : (b : ℕ) (bs notes : List ℕ) → Noted (b ∷ bs) notes → NotesBehindId bs notes
+noted_behind b bs notes n = (n.contents, subst (λ t. BeginsSized t n.contents []) (sym (same_tails b 0 bs n.rest n.parts)) n.sized, n.named)
 
 pub notes_missing : (section : List ℕ) → 1 ≤ length section → ((notes : List ℕ) → NotesBehindId (behind section) notes → ⊥) → (at : ℕ) (notes : List ℕ) → HoldsNotes at section notes → ⊥
 notes_missing section some none at notes h =
@@ -148,10 +151,9 @@ no_last file sections e none bytes notes h =
     let o = opened file bytes notes h in
     none o.last (subst (λ t. EndsWith t o.last) (same_bodies o.body sections (sym o.header ∙ e)) o.ends)
 
-pub no_notes : (file sections last : List ℕ) → file ≡ magic ++ (version ++ sections) → EndsWith sections last → ((at : ℕ) (notes : List ℕ) → HoldsNotes at last notes → ⊥) →
-    (bytes notes : List ℕ) → Split file bytes notes → ⊥
+pub no_notes : (file sections last : List ℕ) → file ≡ magic ++ (version ++ sections) → EndsWith sections last → ((notes : List ℕ) → Noted last notes → ⊥) → (bytes notes : List ℕ) → Split file bytes notes → ⊥
 no_notes file sections last e ends none bytes notes h =
     let o = opened file bytes notes h in
     let k : EndsWith sections o.last = subst (λ t. EndsWith t o.last) (same_bodies o.body sections (sym o.header ∙ e)) o.ends in
     let same = ends_once ends.0 sections last o.last ends.1 ends.2 ends.3 k in
-    none 0 notes (holds 0 last notes (subst (λ x. Noted x notes) (sym same) o.holds))
+    none notes (subst (λ x. Noted x notes) (sym same) o.holds)

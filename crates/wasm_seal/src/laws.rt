@@ -1,6 +1,6 @@
 // Laws over the definitions alone.
 
-ghost use Rattle.std.specs.Prelude.{◌≡◌, ◌≤◌, ℕ, List, length};
+ghost use Rattle.std.specs.Prelude.{◌≡◌, ◌≤◌, ◌⊎◌, ℕ, List, length};
 ghost use Rattle.wasm_syntax.specs.declared.module.Module.{Module};
 ghost use Rattle.wasm_syntax.specs.declared.module.Marks.{Marks};
 ghost use Rattle.binary_grammar.specs.ModuleGrammar.{Spells};
@@ -11,6 +11,11 @@ use wasm_write::laws::numbers_are_spelled;
 /// A file is split in at most one way.
 pub fn one_split()
     ensures { (file b c t u : List ℕ) → Split file b t → Split file c u → (b ≡ c) × (t ≡ u) }
+{}
+
+/// Every file has a split or none.
+pub fn split_or_none()
+    ensures { (file : List ℕ) → ((parts : List ℕ × List ℕ) × Split file parts.0 parts.1) ⊎ ((parts : List ℕ × List ℕ) → Split file parts.0 parts.1 → ⊥) }
 {}
 
 /// A module's bytes that are sealed with notes are split into them again, and spell the module with one custom section more.

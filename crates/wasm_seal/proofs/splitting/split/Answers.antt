@@ -1,4 +1,5 @@
 use Rattle.std.proofs.Common.{arith}
+use Rattle.wasm_seal.proofs.NotesLaws.{holds}
 use Rattle.wasm_seal.proofs.SplitLaws.{Found, split_found, places, no_last, no_notes}
 use Rattle.wasm_seal.proofs.splitting.split.Goals as goal
 
@@ -7,7 +8,8 @@ returns-in_default-last_section-clause-unsealed c = no_last c.args.file.now c.in
 
 pub returns-in_default-notes_in-clause-unsealed : goal.returns-in_default-notes_in-clause-unsealed
 returns-in_default-notes_in-clause-unsealed c =
-    no_notes c.args.file.now c.in-Some.sections.now c.in-Some-last_section.last.now c.in-Some.ensures c.in-Some-last_section.ensures.found c.in_default-notes_in.ensures.missing
+    no_notes c.args.file.now c.in-Some.sections.now c.in-Some-last_section.last.now c.in-Some.ensures c.in-Some-last_section.ensures.found
+    (λ notes n. c.in_default-notes_in.ensures.missing 0 notes (holds 0 c.in-Some-last_section.last.now notes n))
 
 -- what is known where all parts were found
 abbrev all : (c : goal.In-Some-notes_in) → Found c.args.file.now c.in-Some.sections.now c.in-Some-last_section.last.now c.in-Some-notes_in.notes.now
