@@ -1,5 +1,5 @@
 -- Every file has a split or none.
-use Rattle.std.proofs.Common.{◌≡◌, ℕ, zero, suc, ◌<◌, ◌≤◌, Bool, true, false, ltb, eqb, List, [], ◌∷◌, ◌++◌, length, take, drop, Result, Ok, Err, ◌⊎◌, inl, inr, refl, sym, ap, subst, ◌∙◌, arith}
+use Rattle.std.proofs.Common.{◌≡◌, ℕ, zero, suc, ◌≤◌, Bool, true, false, ltb, eqb, List, [], ◌∷◌, ◌++◌, length, take, drop, Result, Ok, Err, ◌⊎◌, inl, inr, refl, sym, ap, subst, ◌∙◌, arith}
 use Rattle.std.specs.Str.{bytes_eq}
 use Rattle.std.proofs.lemmas.Bool.{ltb-true, ltb-false, eqb-true, eqb-false}
 use Rattle.std.proofs.lemmas.List.{take-append-drop, length-take-le, nil_from_length}
@@ -14,7 +14,7 @@ use Rattle.wasm_seal.specs.Sealed.{notes_name, Split}
 use Rattle.wasm_seal.specs.words.Parts.{BeginsNumber, BeginsSized, BeginsWhole, EndsWith, NotesBehindId}
 use Rattle.wasm_seal.proofs.PartLaws.{same_tails, begun, begins, none_begins, shorter_behind, is_last, goes_on, comes_back, begins_some}
 use Rattle.wasm_seal.proofs.NotesLaws.{Noted, holds}
-use Rattle.wasm_seal.proofs.SplitLaws.{Found, split_found, too_short, other_name, name_missing, bytes_behind, no_header, no_last, no_notes, noted_behind}
+use Rattle.wasm_seal.proofs.SplitLaws.{split_found, too_short, other_name, name_missing, bytes_behind, no_header, no_last, no_notes, noted_behind}
 
 -- there is one, or none
 abbrev pub OneOrNone : {A : Type 0} → (A → Type 0) → Type 0

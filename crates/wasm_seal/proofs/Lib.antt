@@ -1,3 +1,4 @@
+mod EntryLaws
 pub mod PartLaws
 pub mod NotesLaws
 pub mod ModuleLaws

@@ -1,5 +1,5 @@
 -- What is sealed is split again, and spells the module with one custom section more.
-use Rattle.std.proofs.Common.{◌≡◌, ℕ, ◌+◌, ◌<◌, ◌≤◌, ◌^◌, List, [], ◌∷◌, ◌++◌, length, ◌⊎◌, inl, inr, Option, None, refl, sym, ap, subst, ◌∙◌, append_assoc, arith}
+use Rattle.std.proofs.Common.{◌≡◌, ℕ, ◌+◌, ◌<◌, ◌≤◌, ◌^◌, List, [], ◌∷◌, ◌++◌, length, inl, inr, Option, None, refl, sym, ap, subst, ◌∙◌, append_assoc, arith}
 use Rattle.std.specs.Prelude.{unwrap_or}
 use Rattle.std.specs.List.{AllByRecursion, concat}
 use Rattle.std.proofs.lemmas.List.{append-nil}
@@ -11,9 +11,10 @@ use Rattle.binary_grammar.specs.declared.section.Section.TheVariants as section
 use Rattle.binary_grammar.specs.Numbers.{SpellsU32}
 use Rattle.binary_grammar.specs.Grammar.{Then, Tagged, SpellsNumber}
 use Rattle.binary_grammar.specs.CodeGrammar.{OfLength, Sized}
-use Rattle.binary_grammar.specs.ModuleGrammar.{id_of, SpellsSection, InTurn, Rising, given, AreFuncs, type_section, import_section, function_section, table_section, memory_section, global_section, export_section, start_section, element_section, code_section, data_section, last_filled, if_custom, customs_of, AreParts, Spells}
+use Rattle.binary_grammar.specs.ModuleGrammar.{id_of, SpellsSection, InTurn, Rising, given, type_section, import_section, function_section, table_section, memory_section, global_section, export_section, start_section, element_section, code_section, data_section, last_filled, if_custom, customs_of, AreParts, Spells}
 use Rattle.wasm_write.specs.Shortest.{number_text}
-use Rattle.wasm_seal.specs.Sealed.{notes_name, sealed_file, IsSection, AreSections, HoldsNotes, Split, with_notes}
+use Rattle.wasm_seal.specs.Sealed.{notes_name, sealed_file, IsSection, AreSections, Split, last_entry, with_notes}
+use Rattle.wasm_seal.proofs.EntryLaws.{filled, last_filled_is}
 use Rattle.wasm_seal.proofs.NotesLaws.{Noted, holds}
 
 -- ---- whole sections
@@ -86,11 +87,6 @@ given_more : {A : Type 0} (kind : Section → Option A) (none : A) (ss : List Se
 given_more kind none [] c e = rw e refl
 given_more kind none (x ∷ xs) c e = ap (unwrap_or (kind x)) (given_more kind none xs c e)
 
--- the id of the last section that has an entry
-abbrev filled : ℕ → List Section → ℕ
-filled last [] = last
-filled last (s ∷ ss) = filled (last_filled last s) ss
-
 customs_more : (last : ℕ) (ss : List Section) (name bytes : List ℕ) →
     customs_of last (ss ++ section.Custom name bytes ∷ []) ≡ customs_of last ss ++ record { after = filled last ss; name = name; bytes = bytes } ∷ []
 customs_more last [] name bytes = refl
@@ -98,9 +94,9 @@ customs_more last (x ∷ xs) name bytes =
     ap (λ (cs : List Custom). if_custom last x ++ cs) (customs_more (last_filled last x) xs name bytes) ∙
     sym (append_assoc (if_custom last x) (customs_of (last_filled last x) xs) (record { after = filled (last_filled last x) xs; name = name; bytes = bytes } ∷ []))
 
-parts_more : (ss : List Section) (notes : List ℕ) (m : Module) (k : Marks) (n : ℕ) → AreParts ss m k →
-    AreParts (ss ++ section.Custom notes_name notes ∷ []) (with_notes (filled 0 ss) notes m) (record k { len = n })
-parts_more ss notes m k n h =
+parts_more : (ss : List Section) (notes : List ℕ) (m : Module) (k : Marks) (n : ℕ) → Rising 0 ss → AreParts ss m k →
+    AreParts (ss ++ section.Custom notes_name notes ∷ []) (with_notes notes m) (record k { len = n })
+parts_more ss notes m k n rising h =
     let c = section.Custom notes_name notes in
     let funcs = given_more function_section ([], []) ss c refl in
     let code = given_more code_section [] ss c refl in
@@ -117,15 +113,18 @@ parts_more ss notes m k n h =
       funcs = rw (← funcs, ← code) h.funcs;
       func_places = rw (← funcs) h.func_places;
       code = rw (← code) h.code;
-      customs = ap (λ (cs : List Custom). cs ++ record { after = filled 0 ss; name = notes_name; bytes = notes } ∷ []) h.customs ∙ sym (customs_more 0 ss notes_name notes);
+      customs =
+          ap (λ (cs : List Custom). cs ++ record { after = last_entry m; name = notes_name; bytes = notes } ∷ []) h.customs ∙
+          ap (λ after. customs_of 0 ss ++ record { after = after; name = notes_name; bytes = notes } ∷ []) (sym (last_filled_is ss m k rising h)) ∙
+          sym (customs_more 0 ss notes_name notes);
     }
 
 pub seal_spells : AreSpelled → (bytes notes : List ℕ) (m : Module) (k : Marks) → Spells bytes m k → length notes ≤ 4294967282 →
-    (after : ℕ) × Spells (sealed_file bytes notes) (with_notes after notes m) (record k { len = length (sealed_file bytes notes) })
+    Spells (sealed_file bytes notes) (with_notes notes m) (record k { len = length (sealed_file bytes notes) })
 unfolding Spells sealed_file
 seal_spells spelled bytes notes m k h few =
     let ss = h.0 in
     let last = written notes in
     let c = section.Custom notes_name notes in
     let turn = turn_more 8 h.1 ss last c h.3 (λ p. holds p last notes (written_noted spelled notes few)) in
-    (filled 0 ss, (ss ++ c ∷ [], h.1 ++ last, ap (λ t. t ++ last) h.2, turn, rising_more 0 ss c refl h.4, parts_more ss notes m k (length (bytes ++ last)) h.5, refl))
+    (ss ++ c ∷ [], h.1 ++ last, ap (λ t. t ++ last) h.2, turn, rising_more 0 ss c refl h.4, parts_more ss notes m k (length (bytes ++ last)) h.4 h.5, refl)

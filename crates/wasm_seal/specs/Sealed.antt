@@ -1,6 +1,6 @@
 -- A module and its notes in one file. The form is this project's own: a custom section that holds the notes is the last of
 -- the file (Core Specification, 5.5).
-use Rattle.std.specs.Prelude.{◌≡◌, ℕ, ◌+◌, List, [], ◌∷◌, ◌++◌, length, codes}
+use Rattle.std.specs.Prelude.{◌≡◌, ℕ, ◌+◌, nat_lt, if◌then◌else◌, List, [], ◌∷◌, ◌++◌, length, is_some, codes}
 use Rattle.std.specs.List.{AllByRecursion, concat}
 use Rattle.wasm_syntax.specs.declared.module.Module.{Module}
 use Rattle.binary_grammar.specs.declared.section.Section.TheVariants as section
@@ -36,6 +36,21 @@ pub record Split (file bytes notes : List ℕ) : Type 0 where
   pub whole : AreSections bytes
   pub holds : HoldsNotes (length bytes) last notes
 
--- The module with one custom section more, which holds notes and stands behind the section with this id (5.5.3).
-abbrev pub with_notes : ℕ → List ℕ → Module → Module
-with_notes after notes m = record m { customs = m.customs ++ record { after = after; name = notes_name; bytes = notes } ∷ [] }
+-- The id of the last section of a module that has an entry, or 0 (5.5.2). Functions have entries in two sections, of which the
+-- later has their bodies.
+abbrev pub last_entry : Module → ℕ
+last_entry m =
+    if nat_lt 0 (length m.segments) then 11 else
+    (if nat_lt 0 (length m.funcs) then 10 else
+    (if nat_lt 0 (length m.elems) then 9 else
+    (if is_some m.start then 8 else
+    (if nat_lt 0 (length m.exports) then 7 else
+    (if nat_lt 0 (length m.globals) then 6 else
+    (if nat_lt 0 (length m.memories) then 5 else
+    (if nat_lt 0 (length m.tables) then 4 else
+    (if nat_lt 0 (length m.imports) then 2 else
+    (if nat_lt 0 (length m.types) then 1 else 0)))))))))
+
+-- The module with one custom section more behind all others, which holds notes (5.5.3).
+abbrev pub with_notes : List ℕ → Module → Module
+with_notes notes m = record m { customs = m.customs ++ record { after = last_entry m; name = notes_name; bytes = notes } ∷ [] }

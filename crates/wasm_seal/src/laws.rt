@@ -22,7 +22,7 @@ pub fn split_or_none()
 pub fn sealed_files()
     ensures split { (bytes notes : List ℕ) (m : Module) (k : Marks) → Spells bytes m k → length notes ≤ 4294967282 → Split (sealed_file bytes notes) bytes notes }
     ensures spelled { (bytes notes : List ℕ) (m : Module) (k : Marks) → Spells bytes m k → length notes ≤ 4294967282 →
-        (after : ℕ) × Spells (sealed_file bytes notes) (with_notes after notes m) (record k { len = length (sealed_file bytes notes) }) }
+        Spells (sealed_file bytes notes) (with_notes notes m) (record k { len = length (sealed_file bytes notes) }) }
 {
     numbers_are_spelled();
 }
