@@ -5,3 +5,4 @@ pub mod ModuleLaws
 pub mod SplitLaws
 pub mod DecideLaws
 mod DigitLaws
+mod LengthLaws

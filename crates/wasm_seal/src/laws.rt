@@ -1,12 +1,12 @@
 // Laws over the definitions alone.
 
-ghost use Rattle.std.specs.Prelude.{◌≡◌, ◌≤◌, ◌⊎◌, ℕ, List, length};
+ghost use Rattle.std.specs.Prelude.{◌≡◌, ◌≤◌, ◌+◌, ◌⊎◌, ℕ, List, length};
 ghost use Rattle.wasm_syntax.specs.declared.module.Module.{Module};
 ghost use Rattle.wasm_syntax.specs.declared.module.Marks.{Marks};
 ghost use Rattle.binary_grammar.specs.ModuleGrammar.{Spells};
 ghost use Rattle.wasm_seal.specs.Sealed.{sealed_file, Split, with_notes};
 
-use wasm_write::laws::numbers_are_spelled;
+use wasm_write::laws::{numbers_are_spelled, texts_are_shortest};
 
 /// A file is split in at most one way.
 pub fn one_split()
@@ -25,4 +25,11 @@ pub fn sealed_files()
         Spells (sealed_file bytes notes) (with_notes notes m) (record k { len = length (sealed_file bytes notes) }) }
 {
     numbers_are_spelled();
+}
+
+/// A file that is sealed with notes within their limit is at most 18 bytes longer than its two parts.
+pub fn sealed_length()
+    ensures { (bytes notes : List ℕ) → length notes ≤ 16777216 → length (sealed_file bytes notes) ≤ length bytes + length notes + 18 }
+{
+    texts_are_shortest();
 }
