@@ -1,7 +1,6 @@
 -- Chunks, assertions, moves, uses and what holds them are read exactly.
-use Rattle.std.proofs.Common.{◌≡◌, ℕ, zero, suc, ◌+◌, Bool, true, false, cond, eqb, ◌&&◌, ◌||◌, not, List, [], ◌∷◌, ◌++◌, length, Option, Some, None, Result, Ok, Err, refl, sym, ap, ◌∙◌, subst, append_assoc, arith}
+use Rattle.std.proofs.Common.{◌≡◌, ℕ, Bool, true, false, cond, List, [], ◌∷◌, Result, Ok, refl, ap, ◌∙◌, subst}
 use Rattle.std.specs.Prelude.{map, codes}
-use Rattle.std.proofs.lemmas.Bool.{eqb-true}
 use Rattle.term_trees.specs.declared.term.Place.{Place}
 use Rattle.term_trees.specs.declared.term.Term.{Term}
 use Rattle.term_trees.specs.declared.term.Formula.{Formula}
@@ -11,18 +10,9 @@ use Rattle.notes.specs.declared.chunk.Chunk.TheVariants as chunks
 use Rattle.notes.specs.declared.heap_move.HeapMove.{HeapMove}
 use Rattle.notes.specs.declared.heap_move.HeapMove.TheVariants as heap
 use Rattle.notes.specs.declared.assertion.Assertion.{Assertion}
-use Rattle.notes.specs.declared.assertion.Contract.{Contract}
 use Rattle.notes.specs.declared.uses.With.{With}
-use Rattle.notes.specs.declared.uses.Take.{Take}
 use Rattle.notes.specs.declared.moves.Move.{Move}
 use Rattle.notes.specs.declared.moves.Move.TheVariants as moves
-use Rattle.notes.specs.declared.uses.Use.{Use}
-use Rattle.notes.specs.declared.uses.Use.TheVariants as used
-use Rattle.notes.specs.declared.outline.Note.{Note}
-use Rattle.notes.specs.declared.outline.FuncNotes.{FuncNotes}
-use Rattle.notes.specs.declared.outline.Initial.{Initial}
-use Rattle.notes.specs.declared.outline.Lemma.{Lemma}
-use Rattle.notes.specs.declared.outline.Notes.{Notes}
 use Rattle.sexp_text.specs.declared.fault.TextFault.{TextFault}
 use Rattle.sexp_text.specs.declared.fault.TextWord.TheVariants as fault
 use Rattle.sexp_text.specs.Reading.{◌>>=◌, refused}
@@ -33,8 +23,8 @@ use Rattle.notes_grammar.specs.Parts as part
 use Rattle.notes_grammar.specs.Shapes.{Shape, Setting, listed, where_so, is_among, chunk as chunk_shape, assertion as assertion_shape, with as with_shape, heap_move as heap_shape, move as move_shape, take as take_shape}
 use Rattle.notes_grammar.specs.Shapes as shape
 use Rattle.notes_grammar.specs.Words.{head_name}
-use Rattle.notes_grammar.specs.Reading.{form, ended, field, all_of, list_of, small, width, Headed, headed, tagged, in_second, place_in, term_in, formula_in, steps_in, row_list, cell_list, region_list, chunk_at, chunk_in, assertion_in, with_list, with_in, one_small, three_small, small_term_small, small_term_two, enrow_list, rows_list, heap_at, name_in, known_name, have_list, put_list, each_list, lemma_use, move_at, move_in, take_list, take_in}
-use Rattle.notes_grammar.proofs.Exactness.{no_form, bound, goes, Fits, FitAll, listed_fits, fits_listed, so_fits, fits_so, both, Exact, field_sound, field_whole, ended_sound, ended_whole, all_sound, all_whole, list_exact, tagged_sound, tagged_whole}
+use Rattle.notes_grammar.specs.Reading.{field, list_of, small, width, Headed, headed, tagged, place_in, term_in, formula_in, steps_in, row_list, cell_list, region_list, chunk_at, chunk_in, assertion_in, with_list, with_in, one_small, three_small, small_term_small, small_term_two, enrow_list, rows_list, heap_at, name_in, known_name, have_list, put_list, each_list, move_at}
+use Rattle.notes_grammar.proofs.Exactness.{no_form, bound, goes, Fits, FitAll, so_fits, fits_so, Exact, field_sound, field_whole, ended_sound, ended_whole, list_exact, tagged_sound, tagged_whole}
 use Rattle.notes_grammar.proofs.LeafLaws.{small_exact, width_exact, name_exact, second_sound, second_whole, Heads, headed_heads, by_head_whole, place_exact}
 use Rattle.notes_grammar.proofs.TermLaws.{term_exact, formula_exact}
 use Rattle.notes_grammar.proofs.StepLaws.{derivation_sound, derivation_whole}

@@ -3,16 +3,14 @@ use Rattle.std.proofs.Common.{◌≡◌, ℕ, Bool, true, false, cond, ◌&&◌,
 use Rattle.std.specs.Prelude.{map}
 use Rattle.std.proofs.lemmas.Slice.Eq.{bytes_eq-Decides}
 use Rattle.sexp_text.specs.declared.fault.TextFault.{TextFault}
-use Rattle.sexp_text.specs.declared.fault.TextFault.TheVariants.{Refused}
-use Rattle.sexp_text.specs.declared.fault.TextWord.TheVariants as fault
 use Rattle.sexp_text.specs.Printing as tree
 use Rattle.sexp_text.specs.Printing.{Tree, Trees}
 use Rattle.sexp_text.specs.Reading.{◌>>=◌}
 use Rattle.notes_grammar.specs.declared.head.Head.{Head}
-use Rattle.notes_grammar.specs.Parts.{Part, Parts, Number, Name, Quote, Branch, Nil, Cons, place, tree_of, trees_of}
+use Rattle.notes_grammar.specs.Parts.{Part, Parts, Number, Name, Quote, Branch, Nil, Cons, tree_of, trees_of}
 use Rattle.notes_grammar.specs.Shapes.{Shape, trees_in, all_fit, listed, where_so}
 use Rattle.notes_grammar.specs.Shapes as shape
-use Rattle.notes_grammar.specs.Reading.{form, next, ended, field, all_of, inside, list_of, word, or_form, Headed, headed, tagged}
+use Rattle.notes_grammar.specs.Reading.{form, ended, field, all_of, list_of, or_form, Headed, headed, tagged}
 use Rattle.notes_grammar.specs.Words.{head_name, head_named, same_word}
 use Rattle.notes_grammar.proofs.WordLemmas.{named_head, head_found}
 

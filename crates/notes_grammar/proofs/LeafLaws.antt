@@ -1,16 +1,10 @@
 -- Numbers, words and places are read exactly.
-use Rattle.std.proofs.Common.{◌≡◌, ℕ, zero, suc, ℤ, pos, negsuc, ◌+◌, ◌-◌, ◌*◌, ◌/◌, ◌%◌, ◌<◌, ◌≤◌, Bool, true, false, cond, eqb, leb, ◌&&◌, List, [], ◌∷◌, ◌++◌, length, Option, Some, None, Result, Ok, Err, refl, sym, ap, ◌∙◌, subst, arith}
-use Rattle.std.proofs.lemmas.Bool.{eqb-true}
-use Rattle.std.proofs.lemmas.Bool.Decides.{nat_tests}
-use Rattle.std.proofs.lemmas.Fmt.{decimal_digit, decimal_by_steps_wide}
-use Rattle.std.specs.Fmt.{decimal}
+use Rattle.std.proofs.Common.{◌≡◌, ℕ, ℤ, pos, negsuc, Bool, true, false, cond, List, [], ◌∷◌, Result, Ok, refl, sym, ap, ◌∙◌, subst}
 use Rattle.sexp_text.specs.declared.fault.TextFault.{TextFault}
 use Rattle.sexp_text.specs.Printing as tree
 use Rattle.sexp_text.specs.Reading.{◌>>=◌}
-use Rattle.sexp_text.specs.Bytes.{is_digit, is_between}
 use Rattle.term_trees.specs.declared.term.Place.{Place}
 use Rattle.term_trees.specs.declared.term.Place.TheVariants as places
-use Rattle.term_trees.specs.Terms.{is_low_width, is_sext_pair, is_sgn_width}
 use Rattle.notes.specs.WellFormed.{is_width}
 use Rattle.notes_grammar.specs.declared.head.Head.{Head}
 use Rattle.notes_grammar.specs.declared.head.Head.TheVariants as head
@@ -19,8 +13,8 @@ use Rattle.notes_grammar.specs.Parts as part
 use Rattle.notes_grammar.specs.Shapes.{Shape, listed, where_so, is_small, begins_name}
 use Rattle.notes_grammar.specs.Shapes as shape
 use Rattle.notes_grammar.specs.Words.{head_name}
-use Rattle.notes_grammar.specs.Reading.{form, ended, field, small, small_where, whole, width, word, Headed, headed, in_second, numbered, place_at, place_in, name_in, index_from, index_of}
-use Rattle.notes_grammar.proofs.Exactness.{no_form, bound, goes, Fits, FitAll, listed_fits, fits_listed, so_fits, fits_so, Exact, field_sound, field_whole, ended_sound, ended_whole, headed_sound, headed_whole}
+use Rattle.notes_grammar.specs.Reading.{form, ended, field, small, small_where, whole, width, Headed, headed, in_second, numbered, place_at, place_in, name_in}
+use Rattle.notes_grammar.proofs.Exactness.{no_form, bound, goes, Fits, FitAll, so_fits, fits_so, Exact, field_sound, field_whole, ended_sound, ended_whole, headed_sound, headed_whole}
 
 ok_same : {A : Type 0} (x y : A) → ◌≡◌ {A = Result A TextFault} (Ok x) (Ok y) → x ≡ y
 ok_same x y e = cc

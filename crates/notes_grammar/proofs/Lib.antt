@@ -3,6 +3,10 @@ pub mod Exactness
 pub mod LeafLaws
 pub mod MoveLaws
 pub mod NameLaws
+pub mod NotesLaws
+pub mod OutlineLaws
 pub mod StepLaws
 pub mod TermLaws
+pub mod UseLaws
+pub mod WideLaws
 pub mod WordLemmas

@@ -1,44 +1,27 @@
 -- Moves, takes and uses are read exactly.
-use Rattle.std.proofs.Common.{◌≡◌, ℕ, zero, suc, ◌+◌, Bool, true, false, cond, eqb, ◌&&◌, ◌||◌, not, List, [], ◌∷◌, ◌++◌, length, Option, Some, None, Result, Ok, Err, refl, sym, ap, ◌∙◌, subst, append_assoc, arith}
-use Rattle.std.specs.Prelude.{map, codes}
-use Rattle.std.proofs.lemmas.Bool.{eqb-true}
-use Rattle.term_trees.specs.declared.term.Place.{Place}
+use Rattle.std.proofs.Common.{◌≡◌, ℕ, Bool, true, ◌&&◌, List, [], ◌∷◌, Result, Ok, refl, ◌∙◌, subst}
+use Rattle.std.specs.Prelude.{codes}
 use Rattle.term_trees.specs.declared.term.Term.{Term}
-use Rattle.term_trees.specs.declared.term.Formula.{Formula}
-use Rattle.bitvector_rules.specs.declared.step.Step.{Step}
-use Rattle.notes.specs.declared.chunk.Chunk.{Chunk}
-use Rattle.notes.specs.declared.chunk.Chunk.TheVariants as chunks
-use Rattle.notes.specs.declared.heap_move.HeapMove.{HeapMove}
-use Rattle.notes.specs.declared.heap_move.HeapMove.TheVariants as heap
 use Rattle.notes.specs.declared.assertion.Assertion.{Assertion}
-use Rattle.notes.specs.declared.assertion.Contract.{Contract}
 use Rattle.notes.specs.declared.uses.With.{With}
 use Rattle.notes.specs.declared.uses.Take.{Take}
 use Rattle.notes.specs.declared.moves.Move.{Move}
 use Rattle.notes.specs.declared.moves.Move.TheVariants as moves
 use Rattle.notes.specs.declared.uses.Use.{Use}
 use Rattle.notes.specs.declared.uses.Use.TheVariants as used
-use Rattle.notes.specs.declared.outline.Note.{Note}
-use Rattle.notes.specs.declared.outline.FuncNotes.{FuncNotes}
-use Rattle.notes.specs.declared.outline.Initial.{Initial}
-use Rattle.notes.specs.declared.outline.Lemma.{Lemma}
-use Rattle.notes.specs.declared.outline.Notes.{Notes}
 use Rattle.sexp_text.specs.declared.fault.TextFault.{TextFault}
-use Rattle.sexp_text.specs.declared.fault.TextWord.TheVariants as fault
-use Rattle.sexp_text.specs.Reading.{◌>>=◌, refused}
+use Rattle.sexp_text.specs.Reading.{◌>>=◌}
 use Rattle.notes_grammar.specs.declared.head.Head.{Head}
 use Rattle.notes_grammar.specs.declared.head.Head.TheVariants as head
-use Rattle.notes_grammar.specs.Parts.{Part, Parts, Number, Name, Quote, Branch, Nil, Cons}
-use Rattle.notes_grammar.specs.Parts as part
+use Rattle.notes_grammar.specs.Parts.{Part, Parts, Nil, Cons}
 use Rattle.notes_grammar.specs.Shapes.{Shape, Setting, listed, where_so, is_among, chunk as chunk_shape, assertion as assertion_shape, with as with_shape, heap_move as heap_shape, move as move_shape, take as take_shape, use_of as use_shape, note as note_shape}
 use Rattle.notes_grammar.specs.Shapes as shape
 use Rattle.notes_grammar.specs.Words.{head_name}
-use Rattle.notes_grammar.specs.Reading.{form, ended, field, all_of, list_of, small, width, Headed, headed, tagged, in_second, place_in, term_in, formula_in, steps_in, row_list, cell_list, region_list, chunk_at, chunk_in, assertion_in, with_list, with_in, one_small, three_small, small_term_small, small_term_two, enrow_list, rows_list, heap_at, name_in, known_name, have_list, put_list, each_list, lemma_use, move_at, move_in, take_list, take_in, safe_list, more_safe, both_list, loop_list, skip_list, use_at, use_or, note_list, note_in}
-use Rattle.notes_grammar.proofs.Exactness.{no_form, bound, goes, Fits, FitAll, listed_fits, fits_listed, so_fits, fits_so, both, Exact, field_sound, field_whole, ended_sound, ended_whole, all_sound, all_whole, list_exact, tagged_sound, tagged_whole}
-use Rattle.notes_grammar.proofs.LeafLaws.{small_exact, width_exact, name_exact, second_sound, second_whole, Heads, headed_heads, by_head_whole, place_exact}
-use Rattle.notes_grammar.proofs.TermLaws.{term_exact, formula_exact}
-use Rattle.notes_grammar.proofs.StepLaws.{derivation_sound, derivation_whole}
-use Rattle.notes_grammar.proofs.ConstructLaws.{ListedBy, WithParts, assertion_exact, with_rest_sound, with_rest_whole, with_exact, one_sound, one_whole, heap_sound, heap_whole, have_sound, have_whole, each_sound, each_whole, put_sound, put_whole, known_exact}
+use Rattle.notes_grammar.specs.Reading.{ended, field, list_of, small, Headed, headed, tagged, place_in, term_in, assertion_in, with_in, heap_at, known_name, each_list, lemma_use, move_at, move_in, take_list, take_in, both_list, loop_list, skip_list}
+use Rattle.notes_grammar.proofs.Exactness.{bound, goes, Fits, FitAll, so_fits, fits_so, both, Exact, field_sound, field_whole, ended_sound, ended_whole, list_exact, tagged_sound, tagged_whole}
+use Rattle.notes_grammar.proofs.LeafLaws.{small_exact, second_sound, second_whole, Heads, headed_heads, by_head_whole, place_exact}
+use Rattle.notes_grammar.proofs.TermLaws.{term_exact}
+use Rattle.notes_grammar.proofs.ConstructLaws.{ListedBy, assertion_exact, with_exact, heap_sound, heap_whole, have_sound, have_whole, each_sound, each_whole, put_sound, put_whole, known_exact}
 
 ok_same : {A : Type 0} (x y : A) → ◌≡◌ {A = Result A TextFault} (Ok x) (Ok y) → x ≡ y
 ok_same x y e = cc

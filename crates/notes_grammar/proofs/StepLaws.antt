@@ -1,8 +1,7 @@
 -- Steps of derivations are read exactly.
-use Rattle.std.proofs.Common.{◌≡◌, ℕ, ℤ, ◌+◌, ◌<◌, ◌≤◌, Bool, true, false, cond, ltb, leb, List, [], ◌∷◌, drop, Option, Some, None, Result, Ok, Err, refl, sym, ap, ◌∙◌, subst, arith}
+use Rattle.std.proofs.Common.{◌≡◌, ℕ, ◌+◌, Bool, true, false, cond, ltb, leb, List, [], ◌∷◌, drop, Option, Some, None, Result, Ok, Err, refl, sym, ap, ◌∙◌, subst}
 use Rattle.std.specs.Prelude.{map}
 use Rattle.std.proofs.lemmas.Bool.{ltb-false, leb-true, le-ltb, le-leb}
-use Rattle.term_trees.specs.declared.term.Formula.{Formula}
 use Rattle.bitvector_rules.specs.declared.step.Rule.{Rule}
 use Rattle.bitvector_rules.specs.declared.step.Ref.{Ref}
 use Rattle.bitvector_rules.specs.declared.step.Ref.TheVariants as refs
@@ -14,12 +13,11 @@ use Rattle.sexp_text.specs.Printing as tree
 use Rattle.sexp_text.specs.Reading.{◌>>=◌}
 use Rattle.notes_grammar.specs.declared.head.Head.{Head}
 use Rattle.notes_grammar.specs.declared.head.Head.TheVariants as head
-use Rattle.notes_grammar.specs.Parts.{Part, Parts, Number, Name, Quote, Branch, Nil, Cons, tree_of}
-use Rattle.notes_grammar.specs.Parts as part
+use Rattle.notes_grammar.specs.Parts.{Part, Parts, Number, Name, Quote, Branch, Nil, Cons}
 use Rattle.notes_grammar.specs.Shapes.{Shape, listed, where_so, step_here, sub_here, step as step_shape}
 use Rattle.notes_grammar.specs.Shapes as shape
-use Rattle.notes_grammar.specs.Words.{head_name, rule_name, rule_named}
-use Rattle.notes_grammar.specs.Reading.{form, field, list_of, whole, word, or_form, Headed, headed, numbered, rule_in, reference_at, reference, formula_in, each_at, step_list, nested, step_in, sub_tokens, sub_in, steps_in}
+use Rattle.notes_grammar.specs.Words.{rule_name, rule_named}
+use Rattle.notes_grammar.specs.Reading.{field, list_of, whole, or_form, Headed, headed, numbered, rule_in, reference_at, reference, formula_in, each_at, step_list, nested, step_in, sub_tokens, sub_in, steps_in}
 use Rattle.notes_grammar.proofs.Exactness.{no_form, bound, goes, Fits, FitAll, listed_fits, fits_listed, so_fits, fits_so, Exact, field_sound, field_whole, list_exact}
 use Rattle.notes_grammar.proofs.LeafLaws.{whole_exact, numbered_sound, numbered_whole, Heads, headed_heads, by_head_whole}
 use Rattle.notes_grammar.proofs.TermLaws.{IsNoList, no_list, formula_exact}
@@ -84,7 +82,7 @@ unfolding step_shape
 rolled later level l = ap (λ f. f level) (fold-roll-Step (ℕ → Shape) (step_here later) l)
 
 -- the shape of a sub-derivation inside so many
-abbrev Sub : Bool → ℕ → List Step → Shape
+abbrev pub Sub : Bool → ℕ → List Step → Shape
 Sub later level ss = where_so (leb level 50) (listed (map (step_shape later level) ss))
 
 map_map : {A B C : Type 0} (f : A → B) (g : B → C) (xs : List A) → map g (map f xs) ≡ map (λ x. g (f x)) xs
@@ -95,11 +93,11 @@ subs_are : (later : Bool) (level : ℕ) (subs : List (List Step)) → map (sub_h
 subs_are later level [] = refl
 subs_are later level (ss ∷ subs) = λ i. where_so (leb level 50) (listed (map_map {A = Step} {B = ℕ → Shape} {C = Shape} (λ s k. step_shape later k s) (λ f. f level) ss i)) ∷ subs_are later level subs i
 
-abbrev Layer : Bool → ℕ → Step-F Step → List Shape
+abbrev pub Layer : Bool → ℕ → Step-F Step → List Shape
 Layer later level l =
     shape.word (rule_name l.rule) ∷ shape.formula later l.formula ∷ listed (map shape.reference l.refs) ∷ listed (map shape.whole l.numbers) ∷ map (Sub later (level + 1)) l.subs
 
-step_is : (later : Bool) (level : ℕ) (l : Step-F Step) → step_shape later level (roll-Step l) ≡ listed (Layer later level l)
+pub step_is : (later : Bool) (level : ℕ) (l : Step-F Step) → step_shape later level (roll-Step l) ≡ listed (Layer later level l)
 step_is later level l =
     rolled later level l ∙
     ap (λ xs. listed (shape.word (rule_name l.rule) ∷ shape.formula later l.formula ∷ listed (map shape.reference l.refs) ∷ listed (map shape.whole l.numbers) ∷ xs)) (subs_are later (level + 1) l.subs)
@@ -195,7 +193,7 @@ step_list_sound later at close ps level s each e =
 branch_same : (a b : ℕ) (ps qs : Parts) (c d : ℕ) → Branch a ps c ≡ Branch b qs d → ps ≡ qs
 branch_same a b ps qs c d e = cc
 
-parts_fit : (xs : List Shape) (at close : ℕ) (ps : Parts) → Fits (listed xs) (Branch at ps close) → FitAll xs ps
+pub parts_fit : (xs : List Shape) (at close : ℕ) (ps : Parts) → Fits (listed xs) (Branch at ps close) → FitAll xs ps
 parts_fit xs at close ps f =
     let l = fits_listed xs (Branch at ps close) f in subst (FitAll xs) (branch_same l.0 at l.1 ps l.2 close (sym l.3)) l.4
 
@@ -226,13 +224,13 @@ step_list_whole later at close ps level s each f =
     (goes (each_at (level + 1) (drop 4 (sub_tokens later ps))) _ l.subs s read (ap Ok same)))))
 
 -- no step is a number, a word or a string
-step_never : (later : Bool) (level : ℕ) (s : Step) (q : Part) → IsNoList q → Fits (step_shape later level s) q → ⊥
+pub step_never : (later : Bool) (level : ℕ) (s : Step) (q : Part) → IsNoList q → Fits (step_shape later level s) q → ⊥
 step_never later level s q n f =
     let l = out-Step s in
     let f1 : Fits (step_shape later level (roll-Step l)) q = subst (λ u. Fits (step_shape later level u) q) (sym (roll-out-Step s)) f in
     no_list (Layer later level l) q n (subst (λ x. Fits x q) (step_is later level l) f1)
 
-sub_never : (later : Bool) (level : ℕ) (ss : List Step) (q : Part) → IsNoList q → Fits (Sub later level ss) q → ⊥
+pub sub_never : (later : Bool) (level : ℕ) (ss : List Step) (q : Part) → IsNoList q → Fits (Sub later level ss) q → ⊥
 sub_never later level ss q n f = no_list (map (step_shape later level) ss) q n (fits_so (leb level 50) (listed (map (step_shape later level) ss)) q f).1
 
 mutual

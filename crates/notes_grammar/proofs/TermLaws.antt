@@ -1,6 +1,6 @@
 -- Terms and formulas are read exactly.
-use Rattle.std.proofs.Common.{◌≡◌, ℕ, ℤ, ◌+◌, ◌<◌, ◌≤◌, Bool, true, false, cond, eqb, ltb, leb, ◌&&◌, List, [], ◌∷◌, length, drop, Option, Some, None, Result, Ok, Err, refl, sym, ap, ◌∙◌, subst, ⊎_elim, arith}
-use Rattle.std.proofs.lemmas.Bool.{eqb-true, ltb-false, leb-true, le-ltb, ltb-true, le-leb}
+use Rattle.std.proofs.Common.{◌≡◌, ℕ, ℤ, Bool, true, false, cond, eqb, ltb, leb, ◌&&◌, List, [], ◌∷◌, drop, Option, Some, None, Result, Ok, Err, refl, sym, ap, ◌∙◌, subst, ⊎_elim, arith}
+use Rattle.std.proofs.lemmas.Bool.{eqb-true, ltb-false, leb-true, le-ltb, le-leb}
 use Rattle.std.proofs.lemmas.Bool.Decides.{nat_tests}
 use Rattle.wasm_values.specs.declared.number.NumOp.{NumOp}
 use Rattle.wasm_values.specs.declared.number.IntOp.{IntOp}
@@ -32,8 +32,8 @@ use Rattle.notes_grammar.specs.Parts as part
 use Rattle.notes_grammar.specs.Shapes.{Shape, listed, where_so, term_here, formula_here, term as term_shape, formula as formula_shape}
 use Rattle.notes_grammar.specs.Shapes as shape
 use Rattle.notes_grammar.specs.Words.{head_name, head_named, num_name, op_named, wide_named}
-use Rattle.notes_grammar.specs.Reading.{form, ended, field, small_where, word, or_form, Headed, leaf_of, behind, limited, Token, no_more, one_of, two_of, operands, place_at, term_at, term_list, bare_term, term_tokens, term_in, constant, formula_at, bare_formula, formula_tokens, formula_in}
-use Rattle.notes_grammar.proofs.Exactness.{no_form, bound, goes, Fits, FitAll, listed_fits, fits_listed, so_fits, fits_so, both, Exact, field_sound, field_whole}
+use Rattle.notes_grammar.specs.Reading.{form, field, small_where, or_form, Headed, leaf_of, behind, limited, Token, no_more, one_of, two_of, operands, place_at, term_at, term_list, bare_term, term_tokens, term_in, constant, formula_at, bare_formula, formula_tokens, formula_in}
+use Rattle.notes_grammar.proofs.Exactness.{no_form, bound, goes, Fits, FitAll, listed_fits, fits_listed, so_fits, fits_so, Exact, field_sound}
 use Rattle.notes_grammar.proofs.LeafLaws.{small_where_exact, place_sound, place_whole, local_whole, stack_whole, global_whole, arg_whole, pages_whole, result_whole, index_whole, item_whole}
 use Rattle.notes_grammar.proofs.NameLaws.{leaf_sound, var_whole, own_whole}
 use Rattle.notes_grammar.proofs.WordLemmas.{named_head, head_found, named_op, op_found}

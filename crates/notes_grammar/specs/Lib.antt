@@ -1,4 +1,5 @@
 pub mod Parts
+pub mod Printed
 pub mod Reading
 pub mod Shapes
 pub mod Spelling

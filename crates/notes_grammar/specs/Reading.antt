@@ -1,5 +1,5 @@
 -- Reading notes from the value of their text, in the order of the text: the notes, or the first fault.
-use Rattle.std.specs.Prelude.{ℕ, zero, suc, ℤ, pos, negsuc, nat_abs, ◌+◌, ◌-◌, ◌*◌, Bool, true, false, ◌==◌, nat_le, nat_lt, ◌&&◌, not, if◌then◌else◌, List, [], ◌∷◌, ◌++◌, Option, Some, None, Result, Ok, Err, codes, length, drop}
+use Rattle.std.specs.Prelude.{ℕ, ℤ, pos, ◌+◌, ◌-◌, ◌*◌, Bool, true, false, ◌==◌, nat_lt, ◌&&◌, if◌then◌else◌, List, [], ◌∷◌, ◌++◌, Option, Some, None, Result, Ok, Err, codes, length, drop}
 use Rattle.wasm_values.specs.declared.number.NumOp.{NumOp}
 use Rattle.wasm_values.specs.declared.limit.LimitWord.TheVariants.{Nodes, Derivation}
 use Rattle.wasm_values.specs.Operators.{num_operands}
@@ -14,7 +14,7 @@ use Rattle.term_trees.specs.Formulas.{formula_nodes}
 use Rattle.bitvector_rules.specs.declared.step.Rule.{Rule}
 use Rattle.bitvector_rules.specs.declared.step.Ref.{Ref}
 use Rattle.bitvector_rules.specs.declared.step.Ref.TheVariants as ref
-use Rattle.bitvector_rules.specs.declared.step.Step.{Step, Step-F, roll-Step}
+use Rattle.bitvector_rules.specs.declared.step.Step.{Step, roll-Step}
 use Rattle.notes.specs.declared.chunk.Chunk.{Chunk}
 use Rattle.notes.specs.declared.chunk.Chunk.TheVariants as chunk
 use Rattle.notes.specs.declared.heap_move.HeapMove.{HeapMove}

@@ -1,7 +1,7 @@
 -- The grammar of notes: for each construct the tree of its text, and whether a text has it.
-use Rattle.std.specs.Prelude.{ℕ, zero, suc, ℤ, pos, nat_abs, ◌+◌, ◌^◌, Bool, true, false, ◌==◌, nat_le, nat_lt, not, ◌&&◌, ◌||◌, max, List, [], ◌∷◌, ◌++◌, map, length, Option, Some, None, codes}
+use Rattle.std.specs.Prelude.{ℕ, ℤ, pos, ◌+◌, Bool, true, false, ◌==◌, nat_le, not, ◌&&◌, ◌||◌, List, [], ◌∷◌, ◌++◌, map, length, Option, Some, None, codes}
 use Rattle.std.specs.Fmt.{decimal}
-use Rattle.std.specs.List.{list_all, list_any}
+use Rattle.std.specs.List.{list_any}
 use Rattle.wasm_values.specs.Operators.{num_operands}
 use Rattle.term_trees.specs.declared.term.Place.{Place}
 use Rattle.term_trees.specs.declared.term.Place.TheVariants as places
@@ -12,7 +12,6 @@ use Rattle.term_trees.specs.declared.term.Formula.TheOpen.{Formula-F}
 use Rattle.term_trees.specs.declared.term.Formula.TheOpen as formulas
 use Rattle.term_trees.specs.Terms.{node_count, is_low_width, is_sext_pair, is_sgn_width}
 use Rattle.term_trees.specs.Formulas.{formula_nodes}
-use Rattle.bitvector_rules.specs.declared.step.Rule.{Rule}
 use Rattle.bitvector_rules.specs.declared.step.Ref.{Ref}
 use Rattle.bitvector_rules.specs.declared.step.Ref.TheVariants as ref
 use Rattle.bitvector_rules.specs.declared.step.Step.{Step, Step-F, fold-Step}

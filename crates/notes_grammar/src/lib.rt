@@ -6,4 +6,4 @@ mod head;
 mod laws;
 
 pub use head::Head;
-pub use laws::read_exactly;
+pub use laws::{notes_or_fault, one_value, printed_again, read_exactly, spelled_is_read};

@@ -1,6 +1,8 @@
 use Rattle.notes_grammar.proofs.ConstructLaws.{chunk_exact, assertion_exact, with_exact}
 use Rattle.notes_grammar.proofs.MoveLaws.{move_exact, take_exact}
 use Rattle.notes_grammar.proofs.TermLaws.{term_exact, formula_exact}
+use Rattle.notes_grammar.proofs.OutlineLaws.{function_exact, initial_exact}
+use Rattle.notes_grammar.proofs.UseLaws.{note_exact}
 use Rattle.notes_grammar.proofs.laws.read_exactly.Goals as goal
 
 pub returns-clause-terms : goal.returns-clause-terms
@@ -23,3 +25,12 @@ returns-clause-moves c s = record { sound = (move_exact s).sound; whole = (move_
 
 pub returns-clause-takes : goal.returns-clause-takes
 returns-clause-takes c s = record { sound = (take_exact s).sound; whole = (take_exact s).whole }
+
+pub returns-clause-notes : goal.returns-clause-notes
+returns-clause-notes c s = record { sound = (note_exact s).sound; whole = (note_exact s).whole }
+
+pub returns-clause-functions : goal.returns-clause-functions
+returns-clause-functions c s = record { sound = (function_exact s).sound; whole = (function_exact s).whole }
+
+pub returns-clause-initials : goal.returns-clause-initials
+returns-clause-initials c s = record { sound = (initial_exact s).sound; whole = (initial_exact s).whole }
