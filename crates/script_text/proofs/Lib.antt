@@ -1,0 +1,4 @@
+pub mod NameLemmas
+pub mod Exactness
+pub mod ScriptLaws
+pub mod TextLaws
