@@ -13,7 +13,7 @@ use term_trees::{Formula, Term};
 
 impl TermTable {
     /// Whether two positions hold the trees, once their leaves are replaced.
-    #[cycle(test)]
+    #[cycle(comparing)]
     fn test_parts(
         &self,
         a: &Term,
@@ -32,7 +32,7 @@ impl TermTable {
     }
 
     /// Whether there is this number with a position that holds the tree, once its leaves are replaced.
-    #[cycle(test)]
+    #[cycle(comparing)]
     fn test_counted(
         &self,
         k: u32,
@@ -51,7 +51,7 @@ impl TermTable {
     }
 
     /// Whether the term at a position is the tree, once its leaves are replaced.
-    #[cycle(test)]
+    #[cycle(comparing)]
     fn test_term(&self, t: &Term, leaves: &LeafIds<'_>, id: TermId) -> bool
         requires within { id < length self.now }
         requires leaves { LeavesWithin (length self.now) leaves.now }
