@@ -1,6 +1,6 @@
 // The bounds of all functions of a module.
 
-ghost use Rattle.std.specs.Prelude.{◌≡◌, ◌≤◌, length, map, count_by, IfOk};
+ghost use Rattle.std.specs.Prelude.{◌<◌, ◌^◌, ◌≡◌, ◌≤◌, length, map, count_by, IfOk};
 ghost use Rattle.wasm_syntax.specs.declared.module.Import.{Import};
 ghost use Rattle.step_bound.specs.Bounds.{is_function, imported_funcs};
 ghost use Rattle.step_bound.specs.Told.{AreBoundsOf};
@@ -29,7 +29,8 @@ pub enum Bound {
 
 /// How many functions a module imports: the numbers of those that it defines begin there.
 pub fn imported_funcs(module: &Module) -> usize
-    ensures { result ≡ imported_funcs «module».now }
+    ensures value { result ≡ imported_funcs «module».now }
+    ensures few { result < 2 ^ 63 }
 {
     module
         .imports

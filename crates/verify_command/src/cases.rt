@@ -590,3 +590,46 @@ pub const NOTES: &[(&[u8], &[u8])] = &[
         b"failed: derivation 0 at 0x00000028 in function 0\n",
     ),
 ];
+
+/// Modules behind their header, and the bounds of their functions.
+pub const BOUNDS: &[(&[u8], &[u8])] = &[
+    // Functions that call later ones.
+    (
+        &[
+            1, 4, 1, 0x60, 0, 0, 3, 4, 3, 0, 0, 0, 10, 15, 3, // heads
+            4, 0, 0x10, 1, 0x0b, 4, 0, 0x10, 2, 0x0b, 3, 0, 0x01, 0x0b,
+        ],
+        b"function 0: 6\nfunction 1: 4\nfunction 2: 2\n",
+    ),
+    // Cycles of calls, and what leads to one.
+    (
+        &[
+            1, 4, 1, 0x60, 0, 0, 3, 6, 5, 0, 0, 0, 0, 0, 10, 24, 5, // heads
+            4, 0, 0x10, 1, 0x0b, 4, 0, 0x10, 0, 0x0b, 4, 0, 0x10, 0, 0x0b, 4, 0, 0x10, 3, 0x0b, 2,
+            0, 0x0b,
+        ],
+        b"function 0: none\nfunction 1: none\nfunction 2: none\nfunction 3: none\nfunction 4: 1\n",
+    ),
+    // Blocks, and the greater of two sides.
+    (
+        &[
+            1, 4, 1, 0x60, 0, 0, 3, 4, 3, 0, 0, 0, 10, 38, 3, // heads
+            15, 0, 0x41, 0, 0x04, 0x40, 0x01, 0x01, 0x05, 0x01, 0x0b, 0x02, 0x40, 0x01, 0x0b, 0x0b, // the first is greater
+            11, 0, 0x41, 0, 0x04, 0x40, 0x01, 0x05, 0x01, 0x01, 0x0b, 0x0b, // the second is
+            8, 0, 0x41, 0, 0x04, 0x40, 0x01, 0x0b, 0x0b,
+        ],
+        b"function 0: 9\nfunction 1: 6\nfunction 2: 5\n",
+    ),
+    // A loop, a call by a table, a call of an import, and a return.
+    (
+        &[
+            1, 4, 1, 0x60, 0, 0, 2, 7, 1, 1, 0x65, 1, 0x68, 0, 0, 3, 5, 4, 0, 0, 0, 0, 4, 4, 1,
+            0x70, 0, 1, 10, 24, 4, // heads
+            5, 0, 0x03, 0x40, 0x0b, 0x0b, 7, 0, 0x41, 0, 0x11, 0, 0, 0x0b, 4, 0, 0x10, 0, 0x0b, 3,
+            0, 0x0f, 0x0b,
+        ],
+        b"function 1: none\nfunction 2: none\nfunction 3: none\nfunction 4: 2\n",
+    ),
+    // No function.
+    (&[], b""),
+];

@@ -1,6 +1,6 @@
 ghost use Rattle.std.specs.Prelude.{◌<◌};
 
-use crate::cases::{BODIES, LISTINGS, NOTES, PREFIXES, SECTIONS};
+use crate::cases::{BODIES, BOUNDS, LISTINGS, NOTES, PREFIXES, SECTIONS};
 use crate::run::run;
 use rw_edge::{MemShelf, MemSink};
 use std::alloc::Global;
@@ -33,6 +33,16 @@ code 0
   0x00000028 global.set 0
   0x0000002a end
 ";
+
+/// A module of no sections.
+const EMPTY: [u8; 8] = [0, 97, 115, 109, 1, 0, 0, 0];
+
+/// Notes that verify it.
+const NOTHING: &[u8] = b"(notes 1 (assert 0 () ()) (initial () () (with () () ())))";
+
+/// The two in one file.
+const SEALED: &[u8] =
+    b"\0asm\x01\0\0\0\0\x47\x0crobust.notes(notes 1 (assert 0 () ()) (initial () () (with () () ())))";
 
 // What a run comes to and writes over this module `m` and these notes `n`, into a sink that takes `take` bytes at once
 // and fails at its write `failing`.
@@ -128,6 +138,42 @@ fn other_commands(rt: HostRuntime) -> Result<(), Fail> {
 }
 
 #[test]
+fn sealed_files(rt: HostRuntime) -> Result<(), Fail> {
+    let alloc = rt.alloc();
+    let notes = NOTHING.to_vec(alloc)?;
+    let words = ["seal", "m", "n"];
+    let sealed = outcome_with(alloc, &words, EMPTY.to_vec(alloc)?, notes, 99, 99)?;
+    assert_eq!(rt; sealed.0, Status::Good);
+    assert_eq!(rt; sealed.1.written(), SEALED);
+    let refused = outcome(alloc, &words, EIGHT.to_vec(alloc)?, 99, 99)?;
+    assert_eq!(rt; refused.0, Status::Negative);
+    assert_eq!(rt;
+        refused.1.written(),
+        b"failed: derivation 0 at 0x0000002a in function 0\n".as_slice()
+    );
+    Ok(())
+}
+
+#[test]
+fn unsealed_files(rt: HostRuntime) -> Result<(), Fail> {
+    let alloc = rt.alloc();
+    let verified = outcome(alloc, &["sealed", "m"], SEALED.to_vec(alloc)?, 99, 99)?;
+    assert_eq!(rt; verified.0, Status::Good);
+    assert_eq!(rt; verified.1.written(), b"verified\n".as_slice());
+    let unsealed = outcome(alloc, &["sealed", "m"], EMPTY.to_vec(alloc)?, 99, 99)?;
+    assert_eq!(rt; unsealed.0, Status::Negative);
+    assert_eq!(rt; unsealed.1.written(), b"unsealed\n".as_slice());
+    let long = vec![in alloc; 0; 20_971_539]?;
+    let limit = outcome(alloc, &["sealed", "m"], long, 99, 99)?;
+    assert_eq!(rt; limit.0, Status::Limit);
+    assert_eq!(rt;
+        limit.1.written(),
+        b"limit: sealed at 0x01400012\n".as_slice()
+    );
+    Ok(())
+}
+
+#[test]
 fn refused_notes(rt: HostRuntime) -> Result<(), Fail> {
     let alloc = rt.alloc();
     for (notes, said) in NOTES {
@@ -199,6 +245,38 @@ fn listings(rt: HostRuntime) -> Result<(), Fail> {
         assert_eq!(rt; listed.0, Status::Good);
         assert_eq!(rt; listed.1.written(), *listing);
     }
+    Ok(())
+}
+
+#[test]
+fn bounds(rt: HostRuntime) -> Result<(), Fail> {
+    let alloc = rt.alloc();
+    for (sections, said) in BOUNDS {
+        let module = with_header(alloc, sections, 0)?;
+        let bounded = outcome(alloc, &["steps", "m"], module, 999, 99)?;
+        assert_eq!(rt; bounded.0, Status::Good);
+        assert_eq!(rt; bounded.1.written(), *said);
+    }
+    Ok(())
+}
+
+// A module of 31 functions, each of which calls the one before it four times.
+fn doubling(alloc: Global) -> Result<Vec<u8>, Fail> {
+    let mut module = with_header(alloc, &[1, 4, 1, 0x60, 0, 0, 3, 32, 31], 31)?;
+    module.extend_from_slice(&[10, 0xce, 2, 31, 2, 0, 0x0b])?;
+    for k in 0..30u8 {
+        module.extend_from_slice(&[10, 0, 0x10, k, 0x10, k, 0x10, k, 0x10, k, 0x0b])?;
+    }
+    Ok(module)
+}
+
+#[test]
+fn great_bounds(rt: HostRuntime) -> Result<(), Fail> {
+    let alloc = rt.alloc();
+    let bounded = outcome(alloc, &["steps", "m"], doubling(alloc)?, 999, 99)?;
+    assert_eq!(rt; bounded.0, Status::Good);
+    let last = b"function 29: 768614336404564649\nfunction 30: over\n";
+    assert!(rt; bounded.1.written().ends_with(last));
     Ok(())
 }
 

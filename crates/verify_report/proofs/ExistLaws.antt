@@ -1,9 +1,10 @@
 -- Words have a report over any files.
-use Rattle.std.proofs.Common.{◌≡◌, ℕ, Bool, true, false, if◌then◌else◌, List, [], ◌∷◌, length, Option, Some, None, IfSome, arith, ◌⊎◌, inl, inr, refl, sym, ◌∙◌}
+use Rattle.std.proofs.Common.{◌≡◌, ℕ, ◌<◌, Bool, true, false, if◌then◌else◌, List, [], ◌∷◌, length, take, Option, Some, None, IfSome, arith, ◌⊎◌, inl, inr, refl, sym, ap, subst, ◌∙◌}
 use Rattle.std.specs.List.{AllByRecursion}
 use Rattle.std.specs.Str.{bytes_eq}
 use Rattle.std.proofs.lemmas.Bool.{cases_order, false≢true}
-use Rattle.std.proofs.lemmas.List.Elements.{recursion_from_All}
+use Rattle.std.proofs.lemmas.List.{take_at}
+use Rattle.std.proofs.lemmas.List.Elements.{recursion_from_All, All-take}
 use Rattle.wasm_syntax.specs.declared.module.Module.{Module}
 use Rattle.wasm_syntax.specs.declared.module.Marks.{Marks}
 use Rattle.binary_grammar.specs.declared.fault.DecodeFault.{DecodeFault}
@@ -22,10 +23,13 @@ use Rattle.validity_laws.proofs.Spelled.{spelled_in_range}
 use Rattle.first_reader.specs.FirstTests.{is_first}
 use Rattle.first_reader.specs.ReadingNotes.{first_notes}
 use Rattle.first_reader.proofs.FirstLaws.{tests_are_exact}
+use Rattle.step_bound.proofs.Existing.{bounds_exist}
 use Rattle.rw_edge.specs.Files.{contents_of}
+use Rattle.wasm_seal.specs.Sealed.{Split}
+use Rattle.wasm_seal.proofs.DecideLaws.{split_decided}
 use Rattle.verify_report.specs.Lines.{limit_line, malformed_line}
 use Rattle.verify_report.specs.declared.status.Status.TheVariants as status
-use Rattle.verify_report.specs.Reports.{Report, ReportsOf, Files, HoldBytes, Command, Check, Show, Verify, command_of, IsFaultReport, OfFile, OfBytes, OfModule, OfFirst, OfChecked, OfShown, OfJudged, OfNotes, OfShow, OfCommand, IsReport, nothing_read, words_refused, module_limit, module_too_long, notes_limit, notes_too_long, module_valid, module_listed, invalid_report, unbuilt_module, noted}
+use Rattle.verify_report.specs.Reports.{Report, ReportsOf, Files, HoldBytes, Command, Check, Show, Verify, Seal, Sealed, command_of, IsFaultReport, OfFile, OfBytes, OfModule, OfFirst, OfChecked, OfShown, OfJudged, OfNotes, sealing, OfSealing, OfSealedNotes, OfParts, OfSplit, OfShow, OfCommand, IsReport, nothing_read, words_refused, module_limit, module_too_long, notes_limit, notes_too_long, sealed_limit, sealed_too_long, not_sealed, module_valid, module_listed, invalid_report, unbuilt_module, noted, Steps, OfBounds, OfBounded, bounds_listed}
 use Rattle.validity_laws.proofs.MarkLaws.{spelled_marked}
 
 -- ---- files
@@ -102,11 +106,37 @@ checked_some bytes b = bytes_some (OfModule (λ m k r. r ≡ module_valid)) byte
 shown_some : (bytes : List ℕ) → Unit {0} → (r : Report) × OfShown bytes r
 shown_some bytes t = bytes_some (λ m k r. r ≡ module_listed m k) bytes (λ m k spells. (module_listed m k, refl))
 
+bounded_some : (bytes : List ℕ) → BytesInRange bytes → (r : Report) × OfBounded bytes r
+bounded_some bytes b = bytes_some (OfModule (λ m k. OfBounds m)) bytes (module_some (λ m k. OfBounds m) (λ m k valid. let x = bounds_exist m in (bounds_listed m x.0, (x.0, x.1, refl))) bytes b)
+
 judged_some : (bytes : List ℕ) → BytesInRange bytes → (text : List ℕ) → Unit {0} → (r : Report) × OfJudged bytes text r
 judged_some bytes b text t = bytes_some (OfModule (OfFirst text)) bytes (module_some (OfFirst text) (first_some text) bytes b)
 
 notes_some : (notes : Option (List ℕ)) (bytes : List ℕ) → BytesInRange bytes → (r : Report) × OfNotes bytes notes r
 notes_some notes bytes b = file_some notes_limit notes_too_long (OfJudged bytes) (λ text. Unit {0}) (judged_some bytes b) notes (anything notes)
+
+sealing_some : (bytes : List ℕ) → BytesInRange bytes → (text : List ℕ) → Unit {0} → (r : Report) × OfSealing bytes text r
+sealing_some bytes b text t = let said = judged_some bytes b text t in (sealing bytes text said.0, (said.0, said.1, refl))
+
+sealed_notes_some : (notes : Option (List ℕ)) (bytes : List ℕ) → BytesInRange bytes → (r : Report) × OfSealedNotes bytes notes r
+sealed_notes_some notes bytes b = file_some notes_limit notes_too_long (OfSealing bytes) (λ text. Unit {0}) (sealing_some bytes b) notes (anything notes)
+
+-- what a file that holds bytes begins with
+front_in_range : (file bytes text : List ℕ) → Split file bytes text → BytesInRange file → BytesInRange bytes
+front_in_range file bytes text s h =
+    let e : take (length bytes) file ≡ bytes = ap (take (length bytes)) s.parts ∙ take_at bytes s.last (length bytes) refl in
+    subst BytesInRange e (All-take (λ b. b < 256) (length bytes) file h)
+
+split_some : (file : List ℕ) → BytesInRange file → (r : Report) × OfSplit file r
+unfolding OfSplit
+split_some file b =
+    elim (split_decided file) [
+      | inl h ↦
+          let Next : ReportsOf (List ℕ) = λ b. OfNotes b (Some h.0.1) in
+          let p : (r : Report) × OfParts h.0.0 h.0.1 r = file_some module_limit module_too_long Next BytesInRange (notes_some (Some h.0.1)) (Some h.0.0) (front_in_range file h.0.0 h.0.1 h.1 b) in
+          (p.0, inl (h.0.0, h.0.1, h.1, p.1))
+      | inr none ↦ (not_sealed, inr (λ x y s. none (x, y) s, refl))
+    ]
 
 pub show_some : (files : Files) (name : List ℕ) → (r : Report) × OfShow files name r
 show_some files name = file_some module_limit module_too_long OfShown (λ bytes. Unit {0}) shown_some (contents_of files name) (anything (contents_of files name))
@@ -115,8 +145,12 @@ command_some : (files : Files) → ((name : List ℕ) → IfSome (contents_of fi
 command_some files b None = (words_refused, refl)
 command_some files b (Some (Check name)) = file_some module_limit module_too_long OfChecked BytesInRange checked_some (contents_of files name) (b name)
 command_some files b (Some (Show name)) = show_some files name
+command_some files b (Some (Steps name)) = file_some module_limit module_too_long OfBounded BytesInRange bounded_some (contents_of files name) (b name)
 command_some files b (Some (Verify name notes)) =
     file_some module_limit module_too_long (λ bytes. OfNotes bytes (contents_of files notes)) BytesInRange (notes_some (contents_of files notes)) (contents_of files name) (b name)
+command_some files b (Some (Seal name notes)) =
+    file_some module_limit module_too_long (λ bytes. OfSealedNotes bytes (contents_of files notes)) BytesInRange (sealed_notes_some (contents_of files notes)) (contents_of files name) (b name)
+command_some files b (Some (Sealed name)) = file_some sealed_limit sealed_too_long OfSplit BytesInRange split_some (contents_of files name) (b name)
 
 pub report_some : (words : List (List ℕ)) (files : Files) → HoldBytes files → (r : Report) × IsReport words files r
 report_some words files h =

@@ -5,3 +5,4 @@ pub mod AcceptLaws
 pub mod OutcomeLaws
 pub mod ExistLaws
 pub mod Verdicts
+pub mod SealedLaws

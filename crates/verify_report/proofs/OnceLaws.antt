@@ -12,8 +12,10 @@ use Rattle.binary_grammar.specs.Plans.{Fault}
 use Rattle.binary_grammar.proofs.UniqueLaws.{one_module}
 use Rattle.binary_grammar.proofs.ModuleLaws.{module_again}
 use Rattle.binary_grammar.proofs.PlanWhole.{stops_module}
+use Rattle.step_bound.proofs.Answering.{same_answers}
 use Rattle.rw_edge.specs.Files.{contents_of}
-use Rattle.verify_report.specs.Reports.{Report, Files, Command, Check, Show, Verify, module_limit, module_too_long, notes_limit, notes_too_long, module_valid, module_listed, invalid_report, IsFaultReport, OfFile, OfBytes, OfModule, OfFirst, OfChecked, OfShown, OfJudged, OfNotes, OfCommand, command_of, IsReport}
+use Rattle.wasm_seal.proofs.NotesLaws.{one_split}
+use Rattle.verify_report.specs.Reports.{Report, Files, Command, Check, Show, Verify, Seal, Sealed, module_limit, module_too_long, notes_limit, notes_too_long, sealed_limit, sealed_too_long, module_valid, module_listed, invalid_report, IsFaultReport, OfFile, OfBytes, OfModule, OfFirst, OfChecked, OfShown, OfJudged, OfNotes, sealing, OfSealing, OfSealedNotes, OfParts, OfSplit, OfCommand, command_of, IsReport, Steps, bounds_listed, OfBounds, OfBounded}
 use Rattle.validity_laws.proofs.InvalidLaws.{invalid_once, valid_is_not_invalid}
 
 -- at most one
@@ -90,18 +92,48 @@ shown_once bytes =
     let next : (m : Module) (k : Marks) → Once (Next m k) = λ m k r s a b. a ∙ sym b in
     bytes_once Next next bytes
 
+bounds_once : (m : Module) → Once (OfBounds m)
+bounds_once m r s a b = a.2 ∙ ap (bounds_listed m) (same_answers m a.0 b.0 a.1 b.1) ∙ sym b.2
+
+bounded_once : (bytes : List ℕ) → Once (OfBounded bytes)
+bounded_once bytes = bytes_once (OfModule (λ m k. OfBounds m)) (module_once (λ m k. OfBounds m) (λ m k. bounds_once m)) bytes
+
 judged_once : (bytes text : List ℕ) → Once (OfJudged bytes text)
 judged_once bytes text = bytes_once (OfModule (OfFirst text)) (module_once (OfFirst text) (first_once text)) bytes
 
 notes_once : (bytes : List ℕ) (o : Option (List ℕ)) → Once (OfNotes bytes o)
 notes_once bytes = file_once notes_limit notes_too_long (OfJudged bytes) (judged_once bytes)
 
-command_once : (files : Files) (c : Option Command) → Once (OfCommand files c)
+sealing_once : (bytes text : List ℕ) → Once (OfSealing bytes text)
+sealing_once bytes text r s a b = a.2 ∙ (ap (sealing bytes text) (judged_once bytes text a.0 b.0 a.1 b.1) ∙ sym b.2)
+
+sealed_notes_once : (bytes : List ℕ) (o : Option (List ℕ)) → Once (OfSealedNotes bytes o)
+sealed_notes_once bytes = file_once notes_limit notes_too_long (OfSealing bytes) (sealing_once bytes)
+
+parts_once : (bytes text : List ℕ) → Once (OfParts bytes text)
+parts_once bytes text = file_once module_limit module_too_long (λ b. OfNotes b (Some text)) (λ b. notes_once b (Some text)) (Some bytes)
+
+split_once : (file : List ℕ) → Once (OfSplit file)
+unfolding OfSplit
+split_once file r s (inl a) (inl b) =
+    let one = one_split file a.0 b.0 a.1 b.1 a.2 b.2 in
+    let B : List ℕ → Type 0 = λ x. OfParts x a.1 r in
+    let T : List ℕ → Type 0 = λ x. OfParts b.0 x r in
+    parts_once b.0 b.1 r s (subst T one.1 (subst B one.0 a.3)) b.3
+split_once file r s (inl a) (inr b) = absurd (b.0 a.0 a.1 a.2)
+split_once file r s (inr a) (inl b) = absurd (a.0 b.0 b.1 b.2)
+split_once file r s (inr a) (inr b) = a.1 ∙ sym b.1
+
+pub command_once : (files : Files) (c : Option Command) → Once (OfCommand files c)
 command_once files None r s a b = a ∙ sym b
 command_once files (Some (Check m)) r s a b = file_once module_limit module_too_long OfChecked checked_once (contents_of files m) r s a b
 command_once files (Some (Show m)) r s a b = file_once module_limit module_too_long OfShown shown_once (contents_of files m) r s a b
+command_once files (Some (Steps m)) r s a b = file_once module_limit module_too_long OfBounded bounded_once (contents_of files m) r s a b
 command_once files (Some (Verify m n)) r s a b =
     file_once module_limit module_too_long (λ bytes. OfNotes bytes (contents_of files n)) (λ bytes. notes_once bytes (contents_of files n)) (contents_of files m) r s a b
+command_once files (Some (Seal m n)) r s a b =
+    file_once module_limit module_too_long (λ bytes. OfSealedNotes bytes (contents_of files n)) (λ bytes. sealed_notes_once bytes (contents_of files n)) (contents_of files m) r s a b
+command_once files (Some (Sealed f)) r s a b = file_once sealed_limit sealed_too_long OfSplit split_once (contents_of files f) r s a b
 
 pub one_report : (words : List (List ℕ)) (files : Files) (r s : Report) → IsReport words files r → IsReport words files s → r ≡ s
 one_report words files = command_once files (command_of words)

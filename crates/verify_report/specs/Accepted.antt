@@ -11,7 +11,8 @@ use Rattle.outline_check.specs.Refusals.{Verified}
 use Rattle.outline_check.specs.Outlines.{outline}
 use Rattle.first_reader.specs.FirstNotes.{IsFirstText}
 use Rattle.rw_edge.specs.Files.{contents_of}
-use Rattle.verify_report.specs.Reports.{Command, Check, Show, Verify, Files, module_limit, notes_limit, command_of}
+use Rattle.wasm_seal.specs.Sealed.{Split}
+use Rattle.verify_report.specs.Reports.{Command, Check, Show, Verify, Seal, Sealed, Files, module_limit, notes_limit, sealed_limit, command_of, Steps}
 
 -- The bytes spell a module, within the limits of a file and of the decoder.
 pub record IsModule (bytes : List ℕ) : Type 0 where
@@ -45,12 +46,23 @@ pub record Accepts (bytes text : List ℕ) : Type 0 where
   pub noted : IsFirstText text notes
   pub verified : outline «module» marks notes ≡ Verified
 
+-- The file is split into bytes and a text that are accepted.
+pub record AcceptsSealed (file : List ℕ) : Type 0 where
+  pub bytes : List ℕ
+  pub text : List ℕ
+  pub few_bytes : length file ≤ sealed_limit
+  pub split : Split file bytes text
+  pub accepted : Accepts bytes text
+
 -- The files that a command names are there, and it accepts them.
 abbrev pub Accepted : Files → Option Command → Type 0
 Accepted files None = ⊥
 Accepted files (Some (Check «module»)) = IsSomeAnd (contents_of files «module») IsValidModule
 Accepted files (Some (Show «module»)) = IsSomeAnd (contents_of files «module») IsModule
+Accepted files (Some (Steps «module»)) = IsSomeAnd (contents_of files «module») IsValidModule
 Accepted files (Some (Verify «module» notes)) = IsSomeAnd (contents_of files «module») (λ bytes. IsSomeAnd (contents_of files notes) (Accepts bytes))
+Accepted files (Some (Seal «module» notes)) = IsSomeAnd (contents_of files «module») (λ bytes. IsSomeAnd (contents_of files notes) (Accepts bytes))
+Accepted files (Some (Sealed file)) = IsSomeAnd (contents_of files file) AcceptsSealed
 
 -- The words have a listed form, and the files that they name are accepted.
 abbrev pub IsAccepted : List (List ℕ) → Files → Type 0

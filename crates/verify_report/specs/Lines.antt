@@ -1,5 +1,5 @@
 -- The lines of a report. They are this project's own.
-use Rattle.std.specs.Prelude.{ℕ, List, [], ◌∷◌, ◌++◌, Option, Some, None, codes}
+use Rattle.std.specs.Prelude.{ℕ, ◌+◌, List, [], ◌∷◌, ◌++◌, Option, Some, None, codes}
 use Rattle.std.specs.Fmt.{decimal}
 use Rattle.outline_check.specs.declared.answer.Reason.{Reason}
 use Rattle.outline_check.specs.declared.answer.Reason.TheVariants as reason
@@ -10,6 +10,8 @@ use Rattle.binary_grammar.specs.declared.fault.DecodeWord.{DecodeWord}
 use Rattle.binary_grammar.specs.declared.fault.DecodeWord.TheVariants as decode
 use Rattle.wasm_typing.specs.declared.fault.ValidWord.{ValidWord}
 use Rattle.wasm_typing.specs.declared.fault.ValidWord.TheVariants as valid
+use Rattle.step_bound.specs.declared.bound.Bound.{Bound}
+use Rattle.step_bound.specs.declared.bound.Bound.TheVariants as bound
 
 -- A line ends in one newline.
 abbrev pub line : List ℕ → List ℕ
@@ -96,3 +98,18 @@ malformed_line w = word_line (codes "malformed") (decode_text w)
 -- `invalid: WORD at PLACE`
 abbrev pub invalid_line : ValidWord → ℕ → List ℕ
 invalid_line w = word_line (codes "invalid") (valid_text w)
+
+-- The words of a bound.
+abbrev pub bound_text : Bound → List ℕ
+bound_text (bound.Steps n) = decimal n
+bound_text bound.Over = codes "over"
+bound_text bound.Unbounded = codes "none"
+
+-- `function K: B`, `function K: over` or `function K: none`
+abbrev pub bound_line : ℕ → Bound → List ℕ
+bound_line number b = line (codes "function " ++ (decimal number ++ (codes ": " ++ bound_text b)))
+
+-- A line for each of these functions, which have the numbers from the first one on.
+abbrev pub bound_lines : (first : ℕ) → List Bound → List ℕ
+bound_lines first [] = []
+bound_lines first (b ∷ bs) = bound_line first b ++ bound_lines (first + 1) bs

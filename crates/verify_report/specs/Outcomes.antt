@@ -5,7 +5,7 @@ use Rattle.std.specs.declared.alloc.Global.{Global}
 use Rattle.std.specs.Prelude.{◌≡◌, ◌≤◌, ◌⊎◌, ℕ, map, take, string_bytes, List, length, Option, IsSomeAnd, codes}
 use Rattle.verify_report.specs.declared.status.Status.{Status}
 use Rattle.verify_report.specs.declared.status.Status.TheVariants as status
-use Rattle.verify_report.specs.Reports.{Report, Command, Check, Show, Verify, command_of}
+use Rattle.verify_report.specs.Reports.{Report, Command, Check, Show, Verify, Seal, Sealed, command_of, Steps}
 use Rattle.verify_report.specs.Lines.{line}
 
 -- The texts of words.
@@ -44,11 +44,14 @@ Told came Is read_fault write_fault old new =
     ((r : Report) × Is r × ((came ≡ r.status) ⊎ ((came ≡ status.WriteFault) × write_fault)) × Wrote came r.text old new) ⊎
     (((came ≡ status.OutOfMemory) ⊎ ((came ≡ status.ReadFault) × read_fault)) × (new ≡ old))
 
--- A command that asks for a verdict on notes.
+-- A command that asks for a verdict on notes alone.
 abbrev pub IsVerify : Command → Type 0
 IsVerify (Check «module») = ⊥
 IsVerify (Show «module») = ⊥
+IsVerify (Steps «module») = ⊥
 IsVerify (Verify «module» notes) = Unit {0}
+IsVerify (Seal «module» notes) = ⊥
+IsVerify (Sealed file) = Unit {0}
 
 -- Words that ask for one.
 abbrev pub AskVerdict : List (List ℕ) → Type 0

@@ -1,5 +1,5 @@
 -- What a run may report: texts and statuses, by the words and the files.
-use Rattle.std.specs.Prelude.{◌≡◌, ◌<◌, ◌≤◌, ◌⊎◌, ℕ, List, [], ◌∷◌, length, Option, Some, None, if◌then◌else◌, codes, All}
+use Rattle.std.specs.Prelude.{◌≡◌, ◌<◌, ◌≤◌, ◌⊎◌, ℕ, List, [], ◌∷◌, length, Option, Some, None, if◌then◌else◌, Bool, true, false, codes, All}
 use Rattle.std.specs.Str.{bytes_eq}
 use Rattle.wasm_syntax.specs.declared.module.Module.{Module}
 use Rattle.wasm_syntax.specs.declared.module.Marks.{Marks}
@@ -12,6 +12,7 @@ use Rattle.wasm_typing.specs.declared.fault.ValidWord.{ValidWord}
 use Rattle.wasm_typing.specs.Valid.{Valid, BytesInRange}
 use Rattle.wasm_typing.specs.faults.Faults.{InvalidAt}
 use Rattle.rw_edge.specs.Files.{contents_of}
+use Rattle.wasm_seal.specs.Sealed.{sealed_file, Split}
 use Rattle.wasm_values.specs.declared.limit.LimitWord.TheVariants as word
 use Rattle.outline_check.specs.declared.notes.Notes.{Notes}
 use Rattle.outline_check.specs.First.{IsFirst}
@@ -23,7 +24,10 @@ use Rattle.module_listing.specs.Listing.{listing_text}
 use Rattle.verify_report.specs.declared.status.Status.{Status}
 use Rattle.verify_report.specs.declared.status.Status.TheVariants as status
 use Rattle.verify_report.specs.declared.report.Report as reports
-use Rattle.verify_report.specs.Lines.{line, failed_line, limit_line, malformed_line, invalid_line}
+use Rattle.verify_report.specs.Lines.{line, failed_line, word_line, limit_line, malformed_line, invalid_line, bound_lines}
+use Rattle.step_bound.specs.declared.bound.Bound.{Bound}
+use Rattle.step_bound.specs.Bounds.{imported_funcs}
+use Rattle.step_bound.specs.Told.{AreBoundsOf}
 
 -- A report is a text and a status.
 pub record Report : Type 0 where
@@ -58,6 +62,18 @@ module_too_long = record { text = limit_line word.Module module_limit; status = 
 abbrev pub notes_too_long : Report
 notes_too_long = record { text = limit_line word.Notes notes_limit; status = status.Limit }
 
+-- A sealed file has at most 20,971,538 bytes: those of the longest module and of the longest notes, and 18 between them.
+abbrev pub sealed_limit : ℕ
+sealed_limit = 20971538
+
+-- A sealed file that is too long.
+abbrev pub sealed_too_long : Report
+sealed_too_long = record { text = word_line (codes "limit") (codes "sealed") sealed_limit; status = status.Limit }
+
+-- A file that is not a module's bytes with notes behind them.
+abbrev pub not_sealed : Report
+not_sealed = record { text = line (codes "unsealed"); status = status.Negative }
+
 -- A module that is valid.
 abbrev pub module_valid : Report
 module_valid = record { text = line (codes "valid"); status = status.Good }
@@ -65,6 +81,10 @@ module_valid = record { text = line (codes "valid"); status = status.Good }
 -- The listing of a module.
 abbrev pub module_listed : Module → Marks → Report
 module_listed m k = record { text = listing_text m k; status = status.Good }
+
+-- The bounds of the functions that a module defines, each with its number.
+abbrev pub bounds_listed : Module → List Bound → Report
+bounds_listed m bounds = record { text = bound_lines (imported_funcs m) bounds; status = status.Good }
 
 -- A valid module that is not of the form First.
 abbrev pub unbuilt_module : Report
@@ -121,17 +141,30 @@ OfModule Next m k r =
 unfoldable pub OfFirst : List ℕ → Module → Marks → Report → Type 0
 OfFirst text m k r = (IsFirst m × (r ≡ noted m k (first_notes text))) ⊎ ((IsFirst m → ⊥) × (r ≡ unbuilt_module))
 
--- The listed forms of words: `check MODULE`, `show MODULE` and `verify MODULE NOTES`.
+-- Of a valid module: the bounds of its functions.
+abbrev pub OfBounds : ReportsOf Module
+OfBounds m r = (bounds : List Bound) × AreBoundsOf m bounds × (r ≡ bounds_listed m bounds)
+
+-- The listed forms of words: `check MODULE`, `show MODULE`, `steps MODULE`, `verify MODULE NOTES`, `seal MODULE NOTES` and
+-- `sealed FILE`.
 pub data Command : Type 0 where
   Check : List ℕ → Command
   Show : List ℕ → Command
+  Steps : List ℕ → Command
   Verify : List ℕ → List ℕ → Command
+  Seal : List ℕ → List ℕ → Command
+  Sealed : List ℕ → Command
 
 -- The command that words are, if they have a listed form.
 abbrev pub command_of : List (List ℕ) → Option Command
-command_of (word ∷ «module» ∷ []) =
-    if bytes_eq word (codes "check") then Some (Check «module») else (if bytes_eq word (codes "show") then Some (Show «module») else None)
-command_of (word ∷ «module» ∷ notes ∷ []) = if bytes_eq word (codes "verify") then Some (Verify «module» notes) else None
+command_of (word ∷ file ∷ []) =
+    if bytes_eq word (codes "check") then Some (Check file) else
+    (if bytes_eq word (codes "show") then Some (Show file) else
+    (if bytes_eq word (codes "steps") then Some (Steps file) else
+    (if bytes_eq word (codes "sealed") then Some (Sealed file) else None)))
+command_of (word ∷ «module» ∷ notes ∷ []) =
+    if bytes_eq word (codes "verify") then Some (Verify «module» notes) else
+    (if bytes_eq word (codes "seal") then Some (Seal «module» notes) else None)
 command_of _ = None
 
 -- Files by name: each is its name and its contents.
@@ -150,6 +183,10 @@ OfChecked = OfBytes (OfModule (λ m k r. r ≡ module_valid))
 abbrev pub OfShown : ReportsOf (List ℕ)
 OfShown = OfBytes (λ m k r. r ≡ module_listed m k)
 
+-- The bounds of the functions of the module that bytes spell.
+abbrev pub OfBounded : ReportsOf (List ℕ)
+OfBounded = OfBytes (OfModule (λ m k. OfBounds m))
+
 -- Whether the notes verify the module that bytes spell.
 abbrev pub OfJudged : List ℕ → ReportsOf (List ℕ)
 OfJudged bytes text = OfBytes (OfModule (OfFirst text)) bytes
@@ -166,17 +203,61 @@ OfCheck files «module» = OfFile module_limit module_too_long OfChecked (conten
 abbrev pub OfShow : Files → List ℕ → Report → Type 0
 OfShow files «module» = OfFile module_limit module_too_long OfShown (contents_of files «module»)
 
+-- `steps MODULE`: the module file and its length, then its bytes, then whether the module is valid, then its bounds.
+abbrev pub OfSteps : Files → List ℕ → Report → Type 0
+OfSteps files «module» = OfFile module_limit module_too_long OfBounded (contents_of files «module»)
+
 -- `verify MODULE NOTES`: the module file and its length, then the notes file and its length, then the module's bytes, its
 -- validity and its form, then the notes, then the outline.
 abbrev pub OfVerify : Files → List ℕ → List ℕ → Report → Type 0
 OfVerify files «module» notes = OfFile module_limit module_too_long (λ bytes. OfNotes bytes (contents_of files notes)) (contents_of files «module»)
+
+-- Whether a status is that of a good report.
+abbrev pub is_good : Status → Bool
+is_good status.Good = true
+is_good _ = false
+
+-- What sealing reports of a module's bytes and notes of which this is said: the sealed file alone where it is good, and else
+-- the same.
+abbrev pub sealing : List ℕ → List ℕ → Report → Report
+sealing bytes text said = if is_good said.status then record { text = sealed_file bytes text; status = status.Good } else said
+
+-- A module's bytes and notes, sealed where the notes verify the module.
+abbrev pub OfSealing : List ℕ → ReportsOf (List ℕ)
+OfSealing bytes text r = (said : Report) × OfJudged bytes text said × (r ≡ sealing bytes text said)
+
+-- The notes file that is sealed with a module that was read.
+abbrev pub OfSealedNotes : List ℕ → ReportsOf (Option (List ℕ))
+OfSealedNotes bytes = OfFile notes_limit notes_too_long (OfSealing bytes)
+
+-- `seal MODULE NOTES`: as `verify` does, and then the sealed file.
+abbrev pub OfSeal : Files → List ℕ → List ℕ → Report → Type 0
+OfSeal files «module» notes = OfFile module_limit module_too_long (λ bytes. OfSealedNotes bytes (contents_of files notes)) (contents_of files «module»)
+
+-- A module's bytes and notes as `verify` takes them from two files: the module's length, then the length of the notes, then
+-- whether these verify the module.
+abbrev pub OfParts : List ℕ → List ℕ → Report → Type 0
+OfParts bytes text = OfFile module_limit module_too_long (λ b. OfNotes b (Some text)) (Some bytes)
+
+-- The parts that a file is split into, or that it has none.
+unfoldable pub OfSplit : ReportsOf (List ℕ)
+OfSplit file r =
+    ((bytes : List ℕ) × (text : List ℕ) × Split file bytes text × OfParts bytes text r) ⊎
+    (((bytes text : List ℕ) → Split file bytes text → ⊥) × (r ≡ not_sealed))
+
+-- `sealed FILE`: the file and its length, then its parts.
+abbrev pub OfSealed : Files → List ℕ → Report → Type 0
+OfSealed files file = OfFile sealed_limit sealed_too_long OfSplit (contents_of files file)
 
 -- Of a command, or of words that are none.
 abbrev pub OfCommand : Files → Option Command → Report → Type 0
 OfCommand files None r = r ≡ words_refused
 OfCommand files (Some (Check «module»)) r = OfCheck files «module» r
 OfCommand files (Some (Show «module»)) r = OfShow files «module» r
+OfCommand files (Some (Steps «module»)) r = OfSteps files «module» r
 OfCommand files (Some (Verify «module» notes)) r = OfVerify files «module» notes r
+OfCommand files (Some (Seal «module» notes)) r = OfSeal files «module» notes r
+OfCommand files (Some (Sealed file)) r = OfSealed files file r
 
 -- The report of the words over the files; there is at most one, and one where the files hold bytes.
 abbrev pub IsReport : List (List ℕ) → Files → Report → Type 0

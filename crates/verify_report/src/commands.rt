@@ -1,16 +1,18 @@
 // What each command reports.
 
-ghost use Rattle.std.specs.Prelude.{◌≡◌, ◌≤◌, ◌⊎◌, Some, None, IfOk, IfSome, IsErrOf, IsSomeAnd, option_map};
+ghost use Rattle.std.specs.Prelude.{◌≡◌, ◌≤◌, ◌⊎◌, length, Some, None, IfOk, IfSome, IsErrOf, IsSomeAnd, option_map};
 ghost use Rattle.rw_edge.specs.Count.{Faulted};
 ghost use Rattle.rw_edge.specs.Files.{contents_of};
 ghost use Rattle.verify_report.specs.Lines.{limit_line};
-ghost use Rattle.verify_report.specs.Reports.{OfCheck, OfShow, OfNotes, OfVerify, OfCommand, IsReport, command_of, nothing_read, seen};
+ghost use Rattle.verify_report.specs.Reports.{OfCheck, OfShow, OfNotes, OfVerify, OfSealedNotes, OfSeal, OfSealed, sealed_too_long, OfCommand, IsReport, command_of, nothing_read, seen, OfSteps};
 ghost use Rattle.verify_report.specs.Outcomes.{IsSpoken, IsVerify, AskVerdict, texts, verified_text};
 ghost use Rattle.verify_report.specs.words.Commands.{command_in};
 
+use crate::bounds::bounded;
 use crate::judge::judged;
 use crate::line::{limit_text, word_line};
 use crate::report::{Report, Stop};
+use crate::sealed::{judged_file, sealing};
 use crate::stages::{checked, shown};
 use crate::status::Status;
 use rw_edge::{ReadFault, Shelf, read_file};
@@ -18,10 +20,13 @@ use std::alloc::Global;
 use wasm_values::LimitWord;
 
 /// The most bytes of a module file.
-const MODULE_LIMIT: usize = 4_194_304;
+pub(crate) const MODULE_LIMIT: usize = 4_194_304;
 
 /// The most bytes of a notes file.
-const NOTES_LIMIT: usize = 16_777_216;
+pub(crate) const NOTES_LIMIT: usize = 16_777_216;
+
+/// The most bytes of a sealed file.
+const SEALED_LIMIT: usize = 20_971_538;
 
 // A file that was not read: too long, or another cause.
 fn unread(alloc: Global, fault: ReadFault, word: LimitWord, limit: usize) -> Result<Report, Stop>
@@ -71,6 +76,22 @@ fn show<S: Shelf>(alloc: Global, module: &str, shelf: &mut S) -> Result<Report, 
     }
 }
 
+// `steps MODULE`: the module file and its length, and the bounds of its functions.
+fn steps<S: Shelf>(alloc: Global, module: &str, shelf: &mut S) -> Result<Report, Stop>
+    ensures files { S.files shelf.new ≡ S.files shelf.old }
+    ensures no_lower { S.faults shelf.old ≤ S.faults shelf.new }
+    ensures made { IfOk result (λ r. IfSome (S.files shelf.old) (λ files. OfSteps files «module».now (seen r))) }
+    ensures read { IsErrOf result Stop.Read → Faulted (S.faults shelf.old) (S.faults shelf.new)
+        ⊎ IsSomeAnd (S.files shelf.old) (λ files. OfSteps files «module».now nothing_read) }
+    ensures listed { IsErrOf result Stop.Words → ⊥ }
+    ensures spoken { IfOk result (λ r. IsSpoken r.status) }
+{
+    match read_file(alloc, shelf, module, MODULE_LIMIT) {
+        Ok(bytes) => Ok(bounded(alloc, bytes.as_slice())?),
+        Err(fault) => unread(alloc, fault, LimitWord::Module, MODULE_LIMIT),
+    }
+}
+
 // The notes file and its length, and what it says of a module that was read.
 fn with_notes<S: Shelf>(
     alloc: Global,
@@ -110,12 +131,86 @@ fn verify<S: Shelf>(alloc: Global, module: &str, notes: &str, shelf: &mut S) -> 
     }
 }
 
+// The notes file and its length, and a module that was read sealed with it.
+fn sealed_notes<S: Shelf>(
+    alloc: Global,
+    bytes: &[u8],
+    notes: &str,
+    shelf: &mut S,
+) -> Result<Report, Stop>
+    requires { length bytes.now ≤ MODULE_LIMIT }
+    ensures files { S.files shelf.new ≡ S.files shelf.old }
+    ensures no_lower { S.faults shelf.old ≤ S.faults shelf.new }
+    ensures made { IfOk result (λ r. IfSome (S.files shelf.old) (λ files. OfSealedNotes bytes.now (contents_of files notes.now) (seen r))) }
+    ensures read { IsErrOf result Stop.Read → Faulted (S.faults shelf.old) (S.faults shelf.new)
+        ⊎ IsSomeAnd (S.files shelf.old) (λ files. OfSealedNotes bytes.now (contents_of files notes.now) nothing_read) }
+    ensures listed { IsErrOf result Stop.Words → ⊥ }
+    ensures spoken { IfOk result (λ r. IsSpoken r.status) }
+{
+    match read_file(alloc, shelf, notes, NOTES_LIMIT) {
+        Ok(notes) => Ok(sealing(alloc, bytes, notes.as_slice())?),
+        Err(fault) => unread(alloc, fault, LimitWord::Notes, NOTES_LIMIT),
+    }
+}
+
+// `seal MODULE NOTES`: the module file and its length, and then the notes.
+fn seal<S: Shelf>(alloc: Global, module: &str, notes: &str, shelf: &mut S) -> Result<Report, Stop>
+    ensures files { S.files shelf.new ≡ S.files shelf.old }
+    ensures no_lower { S.faults shelf.old ≤ S.faults shelf.new }
+    ensures made { IfOk result (λ r. IfSome (S.files shelf.old) (λ files. OfSeal files «module».now notes.now (seen r))) }
+    ensures read { IsErrOf result Stop.Read → Faulted (S.faults shelf.old) (S.faults shelf.new)
+        ⊎ IsSomeAnd (S.files shelf.old) (λ files. OfSeal files «module».now notes.now nothing_read) }
+    ensures listed { IsErrOf result Stop.Words → ⊥ }
+    ensures spoken { IfOk result (λ r. IsSpoken r.status) }
+{
+    match read_file(alloc, shelf, module, MODULE_LIMIT) {
+        Ok(bytes) => sealed_notes(alloc, bytes.as_slice(), notes, shelf),
+        Err(fault) => unread(alloc, fault, LimitWord::Module, MODULE_LIMIT),
+    }
+}
+
+// A sealed file that was not read: too long, or another cause.
+fn unread_sealed(alloc: Global, fault: ReadFault) -> Result<Report, Stop>
+    ensures made { IfOk result (λ r. (fault ≡ ReadFault.TooLong) × (seen r ≡ sealed_too_long)) }
+    ensures read { IsErrOf result Stop.Read → fault ≡ ReadFault.Failed }
+    ensures listed { IsErrOf result Stop.Words → ⊥ }
+{
+    match fault {
+        ReadFault::TooLong => Ok(Report {
+            text: word_line(alloc, b"limit", b"sealed", SEALED_LIMIT)?,
+            status: Status::Limit,
+        }),
+        ReadFault::Failed => Err(Stop::Read),
+        ReadFault::OutOfMemory => Err(Stop::Memory),
+    }
+}
+
+// `sealed FILE`: the file and its length, and what its parts say.
+fn sealed<S: Shelf>(alloc: Global, file: &str, shelf: &mut S) -> Result<Report, Stop>
+    ensures files { S.files shelf.new ≡ S.files shelf.old }
+    ensures no_lower { S.faults shelf.old ≤ S.faults shelf.new }
+    ensures made { IfOk result (λ r. IfSome (S.files shelf.old) (λ files. OfSealed files file.now (seen r))) }
+    ensures verified { IfOk result (λ r. r.status ≡ Status.Good → r.text.items ≡ verified_text) }
+    ensures read { IsErrOf result Stop.Read → Faulted (S.faults shelf.old) (S.faults shelf.new)
+        ⊎ IsSomeAnd (S.files shelf.old) (λ files. OfSealed files file.now nothing_read) }
+    ensures listed { IsErrOf result Stop.Words → ⊥ }
+    ensures spoken { IfOk result (λ r. IsSpoken r.status) }
+{
+    match read_file(alloc, shelf, file, SEALED_LIMIT) {
+        Ok(bytes) => Ok(judged_file(alloc, bytes.as_slice())?),
+        Err(fault) => unread_sealed(alloc, fault),
+    }
+}
+
 // What words of a listed form ask for.
 #[derive(Clone, Copy)]
 enum Asked<'a> {
     Check(&'a str),
     Show(&'a str),
+    Steps(&'a str),
     Verify(&'a str, &'a str),
+    Seal(&'a str, &'a str),
+    Sealed(&'a str),
 }
 
 // The command that words are, if they have a listed form.
@@ -125,8 +220,13 @@ fn asked_by(words: &[String]) -> Option<Asked<'_>>
     match words {
         [word, module] if word.as_str() == "check" => Some(Asked::Check(module.as_str())),
         [word, module] if word.as_str() == "show" => Some(Asked::Show(module.as_str())),
+        [word, module] if word.as_str() == "steps" => Some(Asked::Steps(module.as_str())),
+        [word, file] if word.as_str() == "sealed" => Some(Asked::Sealed(file.as_str())),
         [word, module, notes] if word.as_str() == "verify" => {
             Some(Asked::Verify(module.as_str(), notes.as_str()))
+        }
+        [word, module, notes] if word.as_str() == "seal" => {
+            Some(Asked::Seal(module.as_str(), notes.as_str()))
         }
         _ => None,
     }
@@ -146,7 +246,10 @@ fn done<S: Shelf>(alloc: Global, command: Asked<'_>, shelf: &mut S) -> Result<Re
     match command {
         Asked::Check(module) => check(alloc, module, shelf),
         Asked::Show(module) => show(alloc, module, shelf),
+        Asked::Steps(module) => steps(alloc, module, shelf),
         Asked::Verify(module, notes) => verify(alloc, module, notes, shelf),
+        Asked::Seal(module, notes) => seal(alloc, module, notes, shelf),
+        Asked::Sealed(file) => sealed(alloc, file, shelf),
     }
 }
 

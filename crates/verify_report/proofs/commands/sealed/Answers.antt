@@ -1,0 +1,25 @@
+use Rattle.std.proofs.Common.{Ok, Err, ap}
+use Rattle.verify_report.specs.Reports.{OfSplit, sealed_limit, sealed_too_long}
+use Rattle.verify_report.proofs.ReportLaws.{read_alone, file_unread, not_read}
+use Rattle.verify_report.proofs.Verdicts.{unread_spoken, unread_verdict}
+use Rattle.verify_report.proofs.commands.sealed.Goals as goal
+
+pub returns-in_ok-judged_file-in-Ok-clause-made : goal.returns-in_ok-judged_file-in-Ok-clause-made
+returns-in_ok-judged_file-in-Ok-clause-made g c =
+    read_alone {E = Unit {0}} (Ok c.in_ok-judged_file-in-Ok.field-0) (g.S.Shelf.files c.args.shelf.now) c.args.file.now sealed_limit sealed_too_long OfSplit c.in-Ok.bytes c.as_slice.result.now c.as_slice.ensures
+    c.in-Ok.ensures.whole c.in-Ok.ensures.limited c.in_ok-judged_file-in-Ok.ensures.made
+
+pub returns-in-Err-clause-made : goal.returns-in-Err-clause-made
+returns-in-Err-clause-made g c =
+    file_unread c.unread_sealed.result (g.S.Shelf.files c.args.shelf.now) c.args.file.now sealed_limit sealed_too_long (λ f. OfSplit) c.in-Err.fault
+    (λ is. c.in-Err.ensures.too_long (ap Err is)) c.unread_sealed.ensures.made
+
+pub returns-in-Err-clause-read : goal.returns-in-Err-clause-read
+returns-in-Err-clause-read g c = λ e.
+    not_read _ (g.S.Shelf.files c.args.shelf.now) c.args.file.now sealed_limit sealed_too_long (λ f. OfSplit) (c.in-Err.ensures.failed (ap Err (c.unread_sealed.ensures.read e)))
+
+pub returns-in-Err-clause-spoken : goal.returns-in-Err-clause-spoken
+returns-in-Err-clause-spoken g c = unread_spoken _ c.unread_sealed.result sealed_too_long tt c.unread_sealed.ensures.made
+
+pub returns-in-Err-clause-verified : goal.returns-in-Err-clause-verified
+returns-in-Err-clause-verified g c = unread_verdict _ c.unread_sealed.result sealed_too_long (λ e. absurd cc) c.unread_sealed.ensures.made
