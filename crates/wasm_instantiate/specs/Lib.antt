@@ -7,4 +7,5 @@ pub use Rattle.wasm_sessions.specs.Safety
 pub use Rattle.module_instances.specs.Refusals
 pub mod Answers
 pub mod HostAnswers
+pub mod Observers
 pub mod words

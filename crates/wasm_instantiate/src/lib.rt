@@ -6,7 +6,9 @@ mod acts;
 mod faults;
 mod hosts;
 mod invocations;
+mod observer;
 mod pool;
+mod sight;
 mod typing;
 mod writing;
 
@@ -16,4 +18,6 @@ pub use faults::{HostFault, InvFault};
 pub use hosts::add_host;
 pub use invocations::invoke;
 pub use module_instances::{InstFault, instantiate};
+pub use observer::Observer;
 pub use pool::{is_in_pool, is_in_reach};
+pub use sight::Sight;

@@ -1,0 +1,7 @@
+use Rattle.std.proofs.Common.{arith}
+use Rattle.wasm_link.proofs.Readying.{step_ready}
+use Rattle.wasm_link.proofs.steps.take_step.Goals as goal
+
+pub returns-in-Ok-clause-ready : goal.returns-in-Ok-clause-ready
+returns-in-Ok-clause-ready c =
+    step_ready c.args.run.now _ _ _ c.requires.ready c.step.ensures.typed c.in-Ok.ensures.step (omega (arith, c.requires.ready.few, c.requires.left))

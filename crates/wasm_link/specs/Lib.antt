@@ -1,0 +1,6 @@
+pub mod Lines
+pub mod Loading
+pub mod Stages
+pub mod Watching
+pub mod Logs
+pub mod words

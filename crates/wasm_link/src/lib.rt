@@ -1,0 +1,10 @@
+//! Runs scripts: modules are loaded, instances of them linked, and their functions called.
+#![tactic(auto)]
+
+mod fault;
+pub mod laws;
+mod run;
+mod steps;
+
+pub use fault::LinkFault;
+pub use script_text::{Action, Load, Origin, Script, read_script};
