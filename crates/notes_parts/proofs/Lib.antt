@@ -1,0 +1,4 @@
+pub mod HeadLemmas
+pub mod NameLemmas
+pub mod PartLemmas
+pub mod TableLoop
