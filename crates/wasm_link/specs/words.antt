@@ -1,5 +1,5 @@
 -- Words of private contracts and of proofs.
-use Rattle.std.specs.Prelude.{◌≡◌, ℕ, suc, ◌+◌, ◌<◌, Bool, true, false, List, [], ◌∷◌, length, Option, Some, None, Result, Ok, Err, slice_get}
+use Rattle.std.specs.Prelude.{◌≡◌, ℕ, suc, ◌+◌, ◌<◌, ◌++◌, Bool, true, false, List, [], ◌∷◌, length, Option, Some, None, Result, Ok, Err, slice_get}
 use Rattle.wasm_syntax.specs.declared.module.FuncType.{FuncType}
 use Rattle.wasm_store.specs.declared.store.FuncInst.TheVariants.{Host}
 use Rattle.wasm_store.specs.declared.store.Store.{Store}
@@ -12,6 +12,9 @@ use Rattle.script_text.specs.declared.script.Action.{Action}
 use Rattle.wasm_link.specs.declared.run.Run.{Run}
 use Rattle.wasm_link.specs.declared.run.Ending.{Ending}
 use Rattle.wasm_link.specs.declared.run.Ending.TheVariants.{Over, Stopped, Limit, Seen}
+use Rattle.wasm_store.specs.declared.store.Extern.{Extern}
+use Rattle.wasm_link.specs.declared.run.Found.{Found}
+use Rattle.wasm_link.specs.declared.run.Found.TheVariants.{Externs, Lacking}
 use Rattle.wasm_link.specs.Lines.{Doing}
 use Rattle.wasm_link.specs.Stages.{the_policy, Live, number_at, Modules, Stage, Event, Goes}
 use Rattle.wasm_link.specs.Watching.{Watch, watched}
@@ -68,3 +71,17 @@ EndsAs r Over = r.config.outcome ≡ Running → ⊥
 EndsAs r Stopped = (r.config.outcome ≡ Running) × (r.left ≡ 0)
 EndsAs r Limit = (r.config.outcome ≡ Running) × (0 < r.left) × PassesFrames the_policy r.config
 EndsAs r (Seen n) = Unit {0}
+
+-- What was found for exports.
+abbrev pub IsFound : Found → Result (List Extern) ℕ → Type 0
+IsFound (Externs externs) r = r ≡ Ok externs.items
+IsFound (Lacking at) r = r ≡ Err at
+
+-- A line was added to the log, and nothing else has changed.
+pub record Said (r t : Run) (line : List ℕ) : Type 0 where
+  pub text : t.text.items ≡ r.text.items ++ line
+  pub config : t.config ≡ r.config
+  pub left : t.left ≡ r.left
+  pub steps : t.steps ≡ r.steps
+  pub names : t.names ≡ r.names
+  pub numbers : t.numbers ≡ r.numbers

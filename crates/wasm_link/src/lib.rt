@@ -3,8 +3,10 @@
 
 mod fault;
 pub mod laws;
+mod look;
 mod run;
 mod steps;
+mod text;
 
 pub use fault::LinkFault;
 pub use script_text::{Action, Load, Origin, Script, read_script};

@@ -1,7 +1,7 @@
 //! A script that is being run.
 
 use script_text::NameTable;
-use wasm_store::Config;
+use wasm_store::{Config, Extern};
 use wasm_values::List;
 
 /// What a run has come to.
@@ -29,4 +29,11 @@ pub(crate) enum Ending {
     Limit,
     /// The observer stopped it.
     Seen(u8),
+}
+
+/// What exports stand for, or the place of a name that its instance lacks.
+#[derive(Drop)]
+pub(crate) enum Found {
+    Externs(Vec<Extern>),
+    Lacking(usize),
 }
