@@ -1,5 +1,12 @@
 pub mod Alike
-pub mod Owns
+pub mod Binds
+pub mod Compared
+pub mod Growing
+pub mod Halves
+pub mod Moved
+pub mod Planning
+pub mod RowMoved
 pub mod Slots
+pub mod Sums
 pub mod Symmetric
 pub mod Takings

@@ -1,16 +1,20 @@
 -- What taking a term or a formula comes to.
-use Rattle.std.proofs.Common.{◌≡◌, ℕ, ◌≤◌, ◌<◌, Bool, true, false, List, refl, sym, ap, subst, ◌∙◌, arith}
-use Rattle.std.specs.Prelude.{nat_le, Ok, Err, min}
+use Rattle.std.proofs.Common.{◌≡◌, ℕ, ◌+◌, ◌≤◌, ◌<◌, Bool, true, false, List, refl, sym, ap, subst, ◌∙◌, arith}
+use Rattle.std.specs.Prelude.{nat_le, Ok, Err, min, pos}
+use Rattle.std.proofs.lemmas.Bool.{lt-leb, leb-false}
 use Rattle.wasm_values.specs.declared.limit.LimitWord.TheVariants as limit
-use Rattle.term_trees.specs.declared.term.Term.{Term}
+use Rattle.term_trees.specs.declared.term.Term.{Term, fold-roll-Term}
+use Rattle.term_trees.specs.declared.term.Term.TheOpen as layer
+use Rattle.term_trees.specs.declared.term.Term.TheVariants as term
 use Rattle.term_trees.specs.declared.term.Formula.{Formula}
-use Rattle.term_trees.specs.Terms.{node_count}
+use Rattle.term_trees.specs.Terms.{nodes_here, node_count}
 use Rattle.term_trees.specs.Formulas.{formula_nodes}
 use Rattle.term_trees.specs.Leaves.{Leaves, replaced, replaced_formula}
 use Rattle.notes.specs.declared.reason.Reason.TheVariants as reason
-use Rattle.outline_rules.specs.Refusals.{Ruling, wanted, limited, within, refused, PastLimit, ◌>>◌}
+use Rattle.outline_rules.specs.Refusals.{Ruling, wanted, limited, within, refused, PastLimit, ◌>>=◌, ◌>>◌}
+use Rattle.outline_rules.specs.States.{number}
+use Rattle.heap_logic.specs.words.Making.{made}
 use Rattle.outline_rules.specs.Leaves.{has_leaves, formula_has_leaves, taken, taken_formula}
-use Rattle.heap_logic.specs.words.Shapes.{made, made_formula}
 
 abbrev gone : {A : Type 0} → Bool → Bool → A → Ruling A
 gone there small a = wanted reason.Scope there >> limited limit.Nodes small >> Ok a
@@ -37,16 +41,34 @@ module _ (l : Leaves) (f : Formula) where
 
 -- ---- what is made
 
-module _ (l : Leaves) (t : Term) where
-  pub made-large : nat_le (node_count (replaced l t)) 4096 ≡ false → made l t ≡ Err (PastLimit limit.Nodes)
-  made-large e = ap (λ b. limited limit.Nodes b >> Ok (replaced l t)) e
+module _ (t : Term) where
+  pub made-large : nat_le (node_count t) 4096 ≡ false → made t ≡ Err (PastLimit limit.Nodes)
+  made-large e = ap (λ b. limited limit.Nodes b >> Ok t) e
 
-  pub made-small : nat_le (node_count (replaced l t)) 4096 ≡ true → made l t ≡ Ok (replaced l t)
-  made-small e = ap (λ b. limited limit.Nodes b >> Ok (replaced l t)) e
+  pub made-small : nat_le (node_count t) 4096 ≡ true → made t ≡ Ok t
+  made-small e = ap (λ b. limited limit.Nodes b >> Ok t) e
 
-module _ (l : Leaves) (f : Formula) where
-  pub formula-made-large : nat_le (formula_nodes (replaced_formula l f)) 4096 ≡ false → made_formula l f ≡ Err (PastLimit limit.Nodes)
-  formula-made-large e = ap (λ b. limited limit.Nodes b >> Ok (replaced_formula l f)) e
+pub nodes-number : (n : ℕ) → node_count (number n) ≡ 1
+nodes-number n = ap node_count (sym (term.rolls-Num (pos n))) ∙ fold-roll-Term ℕ nodes_here (layer.Num (pos n))
 
-  pub formula-made-small : nat_le (formula_nodes (replaced_formula l f)) 4096 ≡ true → made_formula l f ≡ Ok (replaced_formula l f)
-  formula-made-small e = ap (λ b. limited limit.Nodes b >> Ok (replaced_formula l f)) e
+-- a number is within the limit
+pub made-number : (n : ℕ) → made (number n) ≡ Ok (number n)
+made-number n = made-small (number n) (ap (λ k. nat_le k 4096) (nodes-number n))
+
+pub nodes-mul : (a b : Term) → node_count (term.Mul a b) ≡ 1 + node_count a + node_count b
+nodes-mul a b = ap node_count (sym (term.rolls-Mul a b)) ∙ fold-roll-Term ℕ nodes_here (layer.Mul a b)
+
+pub nodes-add : (a b : Term) → node_count (term.Add a b) ≡ 1 + node_count a + node_count b
+nodes-add a b = ap node_count (sym (term.rolls-Add a b)) ∙ fold-roll-Term ℕ nodes_here (layer.Add a b)
+
+-- a part of a sum is within the limit where the sum is
+pub made-part : (u t : Term) → (made t >>= λ x. made (term.Add u x)) ≡ made (term.Add u t)
+made-part u t = part_by (nat_le (node_count t) 4096) refl
+  where
+    part_by : (b : Bool) → nat_le (node_count t) 4096 ≡ b → (made t >>= λ x. made (term.Add u x)) ≡ made (term.Add u t)
+    part_by true e = ap (λ r. r >>= λ x. made (term.Add u x)) (made-small t e)
+    part_by false e =
+        ap (λ r. r >>= λ x. made (term.Add u x)) (made-large t e)
+        ∙ sym (made-large (term.Add u t) (lt-leb (node_count (term.Add u t)) 4096 (let h = leb-false (node_count t) 4096 e in omega (arith, nodes-add u t, h))))
+
+pub ruleset makings = (made-number, made-part)

@@ -1,48 +1,96 @@
-ghost use Rattle.std.specs.Prelude.{◌≡◌, ◌<◌, ◌≤◌, map, slice_get, length, IfOk};
-ghost use Rattle.std.specs.List.{All};
+ghost use Rattle.std.specs.Prelude.{◌≡◌, ◌<◌, ◌≤◌, map, length, IfOk, IfSome};
+ghost use Rattle.std.specs.Option.{option_map};
 ghost use Rattle.wasm_values.specs.Answers.{Gives};
-ghost use Rattle.term_trees.specs.Leaves.{replaced_formula};
-ghost use Rattle.term_trees.specs.Same.{passes, same_formula};
 ghost use Rattle.term_logic.specs.Table.{tree_at};
 ghost use Rattle.term_logic.specs.Formulas.{formula_of};
+ghost use Rattle.notes.specs.declared.reason.Reason.TheVariants as reason;
+ghost use Rattle.outline_rules.specs.Refusals.{wanted, found};
+ghost use Rattle.outline_rules.specs.HeapMoves.{chunk_at, region_at, cell_at};
 ghost use Rattle.heap_logic.specs.Faults.{refusal_of};
-ghost use Rattle.heap_logic.specs.Heaps.{chunk_of, HeapWithin};
-ghost use Rattle.heap_logic.specs.words.Shapes.{own_leaves};
-ghost use Rattle.heap_logic.specs.words.Wanted.{region_in, cell_in};
+ghost use Rattle.heap_logic.specs.Heaps.{chunk_of, ChunkWithin, HeapWithin};
+ghost use Rattle.heap_logic.specs.words.Effects.{bare};
+ghost use Rattle.heap_logic.specs.words.Wanted.{equation_in, bound_in, order_in};
 
 use crate::fault::MoveFault;
 use crate::heap::{IdChunk, SymHeap};
-use crate::shapes::says;
 use notes::Reason;
-use term_logic::{Formula, TermId, TermTable};
+use term_logic::{TermId, TermTable};
 
-/// Whether the fact with a number is of this shape.
-pub(crate) fn is_fact(
-    table: &TermTable,
-    heap: &SymHeap,
-    fact: u32,
-    shape: &Formula,
-    own: &[TermId],
-) -> bool
-    requires heap { HeapWithin (length table.now) heap.now }
-    requires own { All (λ id. id < length table.now) own.now }
-    ensures { result ≡ passes (slice_get (map (formula_of table.now) heap.now.facts) fact) (λ g. same_formula g (replaced_formula (own_leaves table.now own.now) shape.now)) }
+/// A test that is wanted, and the reason where it isn't met.
+pub(crate) fn wanted(reason: Reason, met: bool) -> Result<(), MoveFault>
+    ensures { Gives refusal_of (λ _. tt) result (wanted reason met) }
+{
+    if met {
+        Ok(())
+    } else {
+        Err(MoveFault::NoMove(reason))
+    }
+}
+
+/// The sides of the fact with a number, where it is an equation.
+pub(crate) fn equation_in(table: &TermTable, heap: &SymHeap, fact: u32) -> Option<(TermId, TermId)>
+    requires { HeapWithin (length table.now) heap.now }
+    ensures sides { option_map (λ p. (tree_at table.now p.0, tree_at table.now p.1)) result ≡ equation_in (map (formula_of table.now) heap.now.facts) fact }
+    ensures within { IfSome result (λ p. (p.0 < length table.now) × (p.1 < length table.now)) }
 {
     match heap.facts.as_slice().get(fact as usize) {
-        Some(f) => says(table, f, shape, own),
-        None => false,
+        Some(f) => f.eq_of(table),
+        None => None,
+    }
+}
+
+/// The sides of the fact with a number, where it is `a <= b`.
+pub(crate) fn bound_in(table: &TermTable, heap: &SymHeap, fact: u32) -> Option<(TermId, TermId)>
+    requires { HeapWithin (length table.now) heap.now }
+    ensures sides { option_map (λ p. (tree_at table.now p.0, tree_at table.now p.1)) result ≡ bound_in (map (formula_of table.now) heap.now.facts) fact }
+    ensures within { IfSome result (λ p. (p.0 < length table.now) × (p.1 < length table.now)) }
+{
+    match heap.facts.as_slice().get(fact as usize) {
+        Some(f) => f.le_of(table),
+        None => None,
+    }
+}
+
+/// The sides of the fact with a number, where it is `a < b`.
+pub(crate) fn order_in(table: &TermTable, heap: &SymHeap, fact: u32) -> Option<(TermId, TermId)>
+    requires { HeapWithin (length table.now) heap.now }
+    ensures sides { option_map (λ p. (tree_at table.now p.0, tree_at table.now p.1)) result ≡ order_in (map (formula_of table.now) heap.now.facts) fact }
+    ensures within { IfSome result (λ p. (p.0 < length table.now) × (p.1 < length table.now)) }
+{
+    match heap.facts.as_slice().get(fact as usize) {
+        Some(f) => f.lt_of(table),
+        None => None,
+    }
+}
+
+/// The chunk with a number.
+pub(crate) fn chunk_at<'h>(
+    table: &TermTable,
+    heap: &'h SymHeap,
+    chunk: u32,
+) -> Result<&'h IdChunk, MoveFault>
+    requires { HeapWithin (length table.now) heap.now }
+    ensures chunk { Gives refusal_of (λ c. chunk_of table.now c.now) result (chunk_at (bare table.now heap.now) chunk) }
+    ensures within { IfOk result (λ c. ChunkWithin (length table.now) c.now) }
+    ensures place { IfOk result (λ _. chunk < length heap.now.chunks) }
+{
+    let _ = table;
+    match heap.chunks.as_slice().get(chunk as usize) {
+        Some(found) => Ok(found),
+        None => Err(MoveFault::NoMove(Reason::Chunk)),
     }
 }
 
 /// The address and the length of the region with a number.
-pub(crate) fn region_in(
+pub(crate) fn region_at(
     table: &TermTable,
     heap: &SymHeap,
     chunk: u32,
 ) -> Result<(TermId, TermId), MoveFault>
     requires { HeapWithin (length table.now) heap.now }
-    ensures region { Gives refusal_of (λ p. (tree_at table.now p.0, tree_at table.now p.1)) result (region_in (map (chunk_of table.now) heap.now.chunks) chunk) }
+    ensures region { Gives refusal_of (λ p. (tree_at table.now p.0, tree_at table.now p.1)) result (region_at (bare table.now heap.now) chunk) }
     ensures within { IfOk result (λ p. (p.0 < length table.now) × (p.1 < length table.now)) }
+    ensures place { IfOk result (λ _. chunk < length heap.now.chunks) }
 {
     let _ = table;
     match heap.chunks.as_slice().get(chunk as usize) {
@@ -52,14 +100,15 @@ pub(crate) fn region_in(
 }
 
 /// The width, the address and the value of the cell with a number.
-pub(crate) fn cell_in(
+pub(crate) fn cell_at(
     table: &TermTable,
     heap: &SymHeap,
     chunk: u32,
 ) -> Result<(u32, TermId, TermId), MoveFault>
     requires { HeapWithin (length table.now) heap.now }
-    ensures cell { Gives refusal_of (λ p. (p.0, tree_at table.now p.1, tree_at table.now p.2)) result (cell_in (map (chunk_of table.now) heap.now.chunks) chunk) }
+    ensures cell { Gives refusal_of (λ p. (p.0, tree_at table.now p.1, tree_at table.now p.2)) result (cell_at (bare table.now heap.now) chunk) }
     ensures within { IfOk result (λ p. (p.1 < length table.now) × (p.2 < length table.now)) }
+    ensures place { IfOk result (λ _. chunk < length heap.now.chunks) }
 {
     let _ = table;
     match heap.chunks.as_slice().get(chunk as usize) {

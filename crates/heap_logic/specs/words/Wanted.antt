@@ -1,15 +1,17 @@
--- The chunks that moves want, by their numbers, and the facts.
-use Rattle.std.specs.Prelude.{ℕ, List, slice_get}
+-- The sides of the facts that moves name.
+use Rattle.std.specs.Prelude.{ℕ, List, slice_get, Option, option_and_then}
 use Rattle.term_trees.specs.declared.term.Term.{Term}
-use Rattle.notes.specs.declared.reason.Reason.TheVariants as reason
-use Rattle.notes.specs.declared.chunk.Chunk.{Chunk}
-use Rattle.outline_rules.specs.Refusals.{Ruling, found, ◌>>=◌}
-use Rattle.outline_rules.specs.HeapMoves.{as_region, as_cell}
+use Rattle.term_trees.specs.declared.term.Formula.{Formula}
+use Rattle.term_trees.specs.Views.{eq_of, le_of, lt_of}
 
--- the region with a number
-abbrev pub region_in : List Chunk → ℕ → Ruling (Term × Term)
-region_in cs c = found reason.Chunk (slice_get cs c) >>= as_region
+-- the sides of the fact with a number, where it is an equation
+abbrev pub equation_in : List Formula → ℕ → Option (Term × Term)
+equation_in fs k = option_and_then eq_of (slice_get fs k)
 
--- the cell with a number
-abbrev pub cell_in : List Chunk → ℕ → Ruling (ℕ × Term × Term)
-cell_in cs c = found reason.Chunk (slice_get cs c) >>= as_cell
+-- the sides of the fact with a number, where it is `a <= b`
+abbrev pub bound_in : List Formula → ℕ → Option (Term × Term)
+bound_in fs k = option_and_then le_of (slice_get fs k)
+
+-- the sides of the fact with a number, where it is `a < b`
+abbrev pub order_in : List Formula → ℕ → Option (Term × Term)
+order_in fs k = option_and_then lt_of (slice_get fs k)
