@@ -1,11 +1,12 @@
 -- Operands and the types that they stand for.
-use Rattle.std.proofs.Common.{◌≡◌, ℕ, ◌+◌, ◌<◌, ◌==◌, Bool, true, false, List, [], ◌∷◌, ◌++◌, length, reverse, take, drop, get_or, take-append-drop, Option, Some, None, refl, sym, ap, ◌∙◌, subst, arith, append_assoc}
-use Rattle.std.proofs.lemmas.List.{reverse-append, length-reverse, drop_more}
+use Rattle.std.proofs.Common.{◌≡◌, ℕ, ◌+◌, ◌-◌, ◌<◌, ◌≤◌, nat_eq, Bool, true, false, List, [], ◌∷◌, ◌++◌, length, reverse, take, drop, get_or, take-append-drop, Option, Some, None, refl, sym, ap, ◌∙◌, subst, arith, append_assoc}
+use Rattle.std.proofs.lemmas.List.{reverse-append, length-reverse, drop_more, length-drop, take_all, drop-append-le}
 use Rattle.wasm_values.specs.declared.number.ValType.{ValType}
 use Rattle.wasm_values.specs.declared.number.ValType.TheVariants.{I32}
-use Rattle.body_check.specs.declared.operands.Operands.{Operands}
+use Rattle.body_check.specs.words.Known.{Known}
 use Rattle.wasm_typing.specs.Typing.{Types, Turns, Takes}
-use Rattle.body_check.specs.words.Operands.{IsOfType, StandsFor, Are, Advances, IsStuck, Took, TookAny, Pushed, IsCommon, Gave}
+use Rattle.body_check.specs.declared.operands.Floor.{Floor}
+use Rattle.body_check.specs.words.Operands.{IsOfType, StandsFor, Are, lower, Advances, IsStuck, Took, TookAny, Pushed, IsCommon, Gave}
 
 -- a type that an operand may have
 some_type : (k : Option ValType) → (t : ValType) × IsOfType k t
@@ -21,8 +22,19 @@ some_types (k ∷ ks) dead =
     (one.0 ∷ more.0, (one.1, more.1))
 
 -- there are types that operands stand for
-pub are_some : (s : Operands) → (ts : Types) × Are s ts
-are_some s = some_types (reverse s.items.items) s.dead
+pub are_some : (s : Known) → (ts : Types) × Are s ts
+are_some s = some_types (reverse s.here) s.dead
+
+-- dead code without operands stands for all types
+pub all_are : (s n : Known) → n ≡ record { below = s.below; here = []; dead = true } → (ts : Types) → Are n ts
+all_are s n e ts = let A : Known → Type 0 = λ k. Are k ts in subst A (sym e) tt
+
+-- a block without operands stands for none
+pub none_are : (n : Known) (below : List (Option ValType)) → n ≡ record { below = below; here = []; dead = false } →
+    ((ts : Types) → Are n ts → ts ≡ []) × ((ts : Types) → ts ≡ [] → Are n ts)
+none_are n below e =
+    let A : Known → Type 0 = λ k. ((ts : Types) → Are k ts → ts ≡ []) × ((ts : Types) → ts ≡ [] → Are k ts) in
+    subst A (sym e) (λ ts h. h, λ ts h. h)
 
 pub dropped : (P Q : Types → Type 0) (k : Option ValType) → TookAny (Some k) P Q →
     Advances P Q (λ ins outs. (t : ValType) × Turns (t ∷ []) [] ins outs)
@@ -84,17 +96,11 @@ something_left : (ks : List (Option ValType)) (dead : Bool) → 0 < length ks �
 something_left [] dead h s = absurd (omega (arith, h))
 something_left (k ∷ ks) dead h s = s
 
-pub is_clear_then : (s : Operands) → s.items.items ≡ [] → Are s []
-is_clear_then s e = nothing_left (reverse s.items.items) s.dead (ap reverse e)
+pub is_clear_then : (s : Known) → s.here ≡ [] → Are s []
+is_clear_then s e = nothing_left (reverse s.here) s.dead (ap reverse e)
 
-pub not_clear : (s : Operands) → 0 < length s.items.items → Are s [] → ⊥
-not_clear s h a = something_left (reverse s.items.items) s.dead (let e = length-reverse s.items.items in omega (arith, h, e)) a
-
-pub not_clear_test : (s : Operands) (b : Bool) → b ≡ (length s.items.items == 0) → b ≡ false → Are s [] → ⊥
-not_clear_test s b was e a = not_clear s (positive (length s.items.items) (sym was ∙ e)) a
-  where
-    positive : (n : ℕ) → (n == 0) ≡ false → 0 < n
-    positive n h = grind arith
+pub not_clear : (s : Known) → 0 < length s.here → Are s [] → ⊥
+not_clear s h a = something_left (reverse s.here) s.dead (let e = length-reverse s.here in omega (arith, h, e)) a
 
 pushed_on : (k : Option ValType) (ks : List (Option ValType)) (dead : Bool) → Pushed k (StandsFor ks dead) (StandsFor (k ∷ ks) dead)
 pushed_on k ks dead = (λ outs q. top outs q, λ t ts i p. (i, p))
@@ -103,12 +109,12 @@ pushed_on k ks dead = (λ outs q. top outs q, λ t ts i p. (i, p))
     top [] q = absurd q
     top (t ∷ ts) q = (t, ts, q.0, q.1, refl)
 
-pub pushed : (k : Option ValType) (s n : Operands) → n.items.items ≡ s.items.items ++ k ∷ [] → n.dead ≡ s.dead → Pushed k (Are s) (Are n)
+pub pushed : (k : Option ValType) (s n : Known) → n.here ≡ s.here ++ k ∷ [] → n.dead ≡ s.dead → Pushed k (Are s) (Are n)
 pushed k s n e d =
-    let same : reverse n.items.items ≡ k ∷ reverse s.items.items = ap reverse e ∙ reverse-append s.items.items (k ∷ []) in
+    let same : reverse n.here ≡ k ∷ reverse s.here = ap reverse e ∙ reverse-append s.here (k ∷ []) in
     let P : List (Option ValType) → Type 0 = λ ks. Pushed k (Are s) (StandsFor ks n.dead) in
-    let Q : Bool → Type 0 = λ b. Pushed k (Are s) (StandsFor (k ∷ reverse s.items.items) b) in
-    subst P (sym same) (subst Q (sym d) (pushed_on k (reverse s.items.items) s.dead))
+    let Q : Bool → Type 0 = λ b. Pushed k (Are s) (StandsFor (k ∷ reverse s.here) b) in
+    subst P (sym same) (subst Q (sym d) (pushed_on k (reverse s.here) s.dead))
 
 pub selected : (P Q R S N : Types → Type 0) (first second known : Option ValType) → Took true P Q (I32 ∷ []) → TookAny (Some first) Q R → TookAny (Some second) R S →
     IsCommon (Some known) first second → Pushed known S N →
@@ -125,3 +131,31 @@ selected P Q R S N first second known took one two both push = (
       let b = two.0 t below a.1 in
       subst N (sym r.1.2) (push.1 t below (both.1 t a.0 b.0) b.1),
 )
+
+-- ---- one list, cut where the innermost block's operands begin
+
+-- what is known of one list of operands, cut at a number
+abbrev pub cut : List (Option ValType) → ℕ → Bool → Known
+cut xs b dead = record { below = take b xs; here = drop b xs; dead = dead }
+
+pub not_clear_test : (s : Known) (xs : List (Option ValType)) (b n : ℕ) (dead : Bool) → cut xs b dead ≡ s → n ≡ length xs → b ≤ length xs → nat_eq n b ≡ false → Are s [] → ⊥
+not_clear_test s xs b n dead view len fits e a =
+    let more : length (drop b xs) ≡ length xs - b = length-drop b xs in
+    let A : Known → Type 0 = λ k. Are k [] in
+    not_clear (cut xs b dead) (let differ = unequal n b e in omega (arith, differ, more, len, fits)) (subst A (sym view) a)
+  where
+    unequal : (n b : ℕ) → nat_eq n b ≡ false → n ≡ b → ⊥
+    unequal n b e same = grind (arith, e, same)
+
+pub pushed_cut : (k : Option ValType) (s : Known) (xs ys : List (Option ValType)) (b : ℕ) (dead : Bool) → cut xs b dead ≡ s → b ≤ length xs → ys ≡ xs ++ k ∷ [] → Pushed k (Are s) (Are (cut ys b dead))
+pushed_cut k s xs ys b dead view fits e =
+    pushed k s (cut ys b dead) (ap (drop b) e ∙ drop-append-le b xs (k ∷ []) fits ∙ ap (λ (z : Known). z.here ++ k ∷ []) view) (ap (λ (z : Known). z.dead) view)
+
+all_before : (xs : List (Option ValType)) (b : ℕ) → drop b xs ≡ [] → take b xs ≡ xs
+all_before xs b e = take_all b xs (let l = length-drop b xs in let z = ap length e in omega (arith, l, z))
+
+-- the innermost block ends, whose own operands are gone
+pub put_down : (s : Known) (xs : List (Option ValType)) (b : ℕ) (dead : Bool) (f : Floor) → cut xs b dead ≡ s → s.here ≡ [] → cut xs f.base f.dead ≡ lower f s.below
+put_down s xs b dead f view none =
+    let all : xs ≡ s.below = sym (all_before xs b (ap (λ (z : Known). z.here) view ∙ none)) ∙ ap (λ (z : Known). z.below) view in
+    ap (λ ys. cut ys f.base f.dead) all

@@ -1,7 +1,9 @@
 -- A walk over a body, item by item.
-use Rattle.std.proofs.Common.{◌≡◌, Bool, true, false, List, [], ◌∷◌, ◌++◌, reverse, Option, Some, None, refl, sym, ap, ◌∙◌, subst, append_assoc}
+use Rattle.std.proofs.Common.{length-append, ◌≡◌, length, arith, Bool, true, false, List, [], ◌∷◌, ◌++◌, reverse, Option, Some, None, refl, sym, ap, ◌∙◌, subst, append_assoc}
 use Rattle.std.specs.Option.{is_some}
 use Rattle.std.proofs.lemmas.List.{reverse-append, reverse-reverse}
+use Rattle.std.proofs.Math.Seq.{take-append_seam, drop-append_seam}
+use Rattle.wasm_values.specs.declared.number.ValType.{ValType}
 use Rattle.wasm_values.specs.declared.number.ValType.TheVariants.{I32}
 use Rattle.wasm_syntax.specs.declared.instr.Instr.{Instr}
 use Rattle.wasm_syntax.specs.declared.flat.Flat.{Flat}
@@ -11,11 +13,12 @@ use Rattle.wasm_syntax.specs.declared.flat.Head.TheVariants as head
 use Rattle.wasm_syntax.specs.Trees.{instruction_of, sequence_of}
 use Rattle.wasm_syntax.specs.Parts.{Part, own, begun, with_instr, turned, instr_of, closed_part, with_last, closed, then_item}
 use Rattle.wasm_syntax.proofs.TreeLaws.{instruction_of-Block, instruction_of-Loop, instruction_of-If, instruction_of-IfElse}
-use Rattle.body_check.specs.declared.operands.Operands.{Operands}
+use Rattle.body_check.specs.declared.operands.Floor.{Floor}
 use Rattle.body_check.specs.declared.walk.Open.{Open}
 use Rattle.wasm_typing.specs.Typing.{Types, Context, Turns, InstructionTyped, SequenceTyped, BodyTyped}
 use Rattle.wasm_typing.specs.faults.Open.{part_results, label_of, labels_of, before_part, FirstSideTyped, PartsTyped}
-use Rattle.body_check.specs.words.Operands.{Are, Exactly, Advances, IsStuck, Gave}
+use Rattle.body_check.specs.words.Known.{Known}
+use Rattle.body_check.specs.words.Operands.{Are, Exactly, Advances, IsStuck, Gave, lower}
 use Rattle.body_check.specs.words.Walks.{then_inner, MayEnd, IsAround, IsOpen}
 use Rattle.body_check.proofs.OperandLemmas.{are_some}
 
@@ -35,23 +38,38 @@ snoc_from c labels (j ∷ is) i ins mid outs a b = (a.0, a.1, snoc_from c labels
 
 -- ---- what stands for open parts has a typing
 
-around_typed : (c : Context) (p : Part) (os : List Open) (around : List Part) → ((s : Operands) (os' : List Open) → IsOpen c p.head s os' around → PartsTyped c p.head around) →
-    IsAround p os around (λ o os'. IsOpen c p.head o.below os' around) → PartsTyped c p.head around
-around_typed c p [] around rec h = let M : List Part → Type 0 = λ ps. PartsTyped c p.head ps in subst M (sym h.1) tt
-around_typed c p (o ∷ os) around rec h = rec o.below os h.2
+around_typed : (c : Context) (p : Part) (below : List (Option ValType)) (os : List Open) (around : List Part) → ((s : Known) (os' : List Open) → IsOpen c p.head s os' around → PartsTyped c p.head around) →
+    IsAround p below os around (λ o os'. IsOpen c p.head (lower o.floor below) os' around) → PartsTyped c p.head around
+around_typed c p below [] around rec h = let M : List Part → Type 0 = λ ps. PartsTyped c p.head ps in subst M (sym h.1) tt
+around_typed c p below (o ∷ os) around rec h = rec (lower o.floor below) os h.3
 
-pub open_typed : (c : Context) (inner : Option Head) (s : Operands) (os : List Open) (ps : List Part) → IsOpen c inner s os ps → PartsTyped c inner ps
+pub open_typed : (c : Context) (inner : Option Head) (s : Known) (os : List Open) (ps : List Part) → IsOpen c inner s os ps → PartsTyped c inner ps
 open_typed c inner s os [] h = absurd h
 open_typed c inner s os (p ∷ around) h =
     let some = are_some s in
-    ((some.0, h.0.0.0 some.0 some.1), h.0.1, around_typed c p os around (λ s' os' h'. open_typed c p.head s' os' around h') h.1)
+    ((some.0, h.0.0.0 some.0 some.1), h.0.1, around_typed c p s.below os around (λ s' os' h'. open_typed c p.head s' os' around h') h.1)
 
 -- ---- an instruction that holds no others
 
-pub one_more : (c : Context) (s n : Operands) (os : List Open) (p : Part) (around : List Part) (i : Instr) →
+-- what is around a part is the same over the same operands below
+around_same : (c : Context) (s n : Known) (os : List Open) (p r : Part) (around : List Part) → n.below ≡ s.below → r.head ≡ p.head → r.first ≡ p.first →
+    IsAround p s.below os around (λ o os'. IsOpen c p.head (lower o.floor s.below) os' around) →
+    IsAround r n.below os around (λ o os'. IsOpen c r.head (lower o.floor n.below) os' around)
+around_same c s n os p r around e hd first h =
+    let B : List (Option ValType) → Type 0 = λ b. IsAround p b os around (λ o os'. IsOpen c p.head (lower o.floor b) os' around) in
+    headed os (subst B (sym e) h)
+  where
+    headed : (os : List Open) → IsAround p n.below os around (λ o os'. IsOpen c p.head (lower o.floor n.below) os' around) →
+        IsAround r n.below os around (λ o os'. IsOpen c r.head (lower o.floor n.below) os' around)
+    headed [] h = (hd ∙ h.0, h.1)
+    headed (o ∷ os') h =
+        let H : Option Head → Type 0 = λ k. IsOpen c k (lower o.floor n.below) os' around in
+        (hd ∙ h.0, h.1 ∙ ap is_some (sym first), h.2, subst H (sym hd) h.3)
+
+pub one_more : (c : Context) (s n : Known) (os : List Open) (p : Part) (around : List Part) (i : Instr) → n.below ≡ s.below →
     Advances (Are s) (Are n) (InstructionTyped c (labels_of c (p ∷ around)) (instruction_of i)) →
     IsOpen c None s os (p ∷ around) → IsOpen c None n os (with_instr i p ∷ around)
-one_more c s n os p around i a h =
+one_more c s n os p around i same a h =
     let L = labels_of c (p ∷ around) in (
       (
         (
@@ -60,10 +78,10 @@ one_more c s n os p around i a h =
         ),
         h.0.1,
       ),
-      h.1,
+      around_same c s n os p (with_instr i p) around same refl refl h.1,
     )
 
-pub one_stuck : (c : Context) (s : Operands) (os : List Open) (p : Part) (around : List Part) (i : Instr) →
+pub one_stuck : (c : Context) (s : Known) (os : List Open) (p : Part) (around : List Part) (i : Instr) →
     IsStuck (Are s) (InstructionTyped c (labels_of c (p ∷ around)) (instruction_of i)) →
     IsOpen c None s os (p ∷ around) → PartsTyped c None (with_instr i p ∷ around) → ⊥
 one_stuck c s os p around i a h t =
@@ -71,40 +89,61 @@ one_stuck c s os p around i a h t =
 
 -- ---- a block begins
 
-abbrev pub opened : Head → Bool → Operands → Open
-opened hd t below = record { head = hd; turned = t; below = below }
+abbrev pub opened : Head → Bool → Floor → Open
+opened hd t floor = record { head = hd; turned = t; floor = floor }
 
-pub block_begins : (c : Context) (s below n : Operands) (os : List Open) (p : Part) (around : List Part) (hd : Head) →
-    Exactly (Are below) (λ ts. Are s (before_part (Some hd) ts)) → Exactly (Are n) (λ ts. ts ≡ []) →
-    IsOpen c None s os (p ∷ around) → IsOpen c None n (opened hd false below ∷ os) (begun hd ∷ p ∷ around)
-block_begins c s below n os p around hd e empty h = (
-  ((λ ts a. sym (empty.0 ts a), λ ts t. empty.1 ts (sym t)), tt),
-  (
-    refl,
-    refl,
-    (((λ ts a. h.0.0.0 (before_part (Some hd) ts) (e.0 ts a), λ ts t. e.1 ts (h.0.0.1 (before_part (Some hd) ts) t)), h.0.1), h.1),
-  ),
-)
+-- where operands of a block begin
+abbrev pub floor_of : Known → Floor
+floor_of s = record { base = length s.below; dead = s.dead }
 
-pub no_block : (c : Context) (s : Operands) (os : List Open) (p : Part) (around : List Part) (hd : Head) →
+-- operands that a block began over are back where it ends
+back_down : (s : Known) → lower (floor_of s) (s.below ++ s.here) ≡ s
+back_down s =
+    let front = take-append_seam s.below s.here in
+    let end = drop-append_seam s.below s.here in
+    λ j. record { below = front j; here = end j; dead = s.dead }
+
+pub block_begins : (c : Context) (s below n : Known) (os : List Open) (p : Part) (around : List Part) (hd : Head) →
+    below.below ≡ s.below → Exactly (Are below) (λ ts. Are s (before_part (Some hd) ts)) →
+    n ≡ record { below = below.below ++ below.here; here = []; dead = false } →
+    IsOpen c None s os (p ∷ around) → IsOpen c None n (opened hd false (floor_of below) ∷ os) (begun hd ∷ p ∷ around)
+block_begins c s below n os p around hd same e is h =
+    let K : Known → Type 0 = λ k. IsOpen c None k (opened hd false (floor_of below) ∷ os) (begun hd ∷ p ∷ around) in
+    let U : Known → Type 0 = λ k. IsOpen c (Some hd) k os (p ∷ around) in
+    subst K (sym is) (
+      ((λ ts a. sym a, λ ts t. sym t), tt),
+      (
+        refl,
+        refl,
+        (let e = length-append below.below below.here in omega (arith, e)),
+        subst U (sym (back_down below)) (
+          ((λ ts a. h.0.0.0 (before_part (Some hd) ts) (e.0 ts a), λ ts t. e.1 ts (h.0.0.1 (before_part (Some hd) ts) t)), h.0.1),
+          around_same c s below os p p around same refl refl h.1,
+        ),
+      ),
+    )
+
+pub no_block : (c : Context) (s : Known) (os : List Open) (p : Part) (around : List Part) (hd : Head) →
     ((ts : Types) → Are s (before_part (Some hd) ts) → ⊥) → IsOpen c None s os (p ∷ around) → PartsTyped c None (begun hd ∷ p ∷ around) → ⊥
 no_block c s os p around hd never h t = never t.2.0.0 (h.0.0.1 (before_part (Some hd) t.2.0.0) t.2.0.1)
 
 -- ---- an `else`
 
-pub side_turns : (c : Context) (s n : Operands) (o : Open) (os : List Open) (p : Part) (around : List Part) →
-    Are s (part_results c p.head) → Exactly (Are n) (λ ts. ts ≡ []) →
-    IsOpen c None s (o ∷ os) (p ∷ around) → IsOpen c None n (opened o.head true o.below ∷ os) (turned p ∷ around)
-side_turns c s n o os p around a empty h =
-    (((λ ts q. sym (empty.0 ts q), λ ts t. empty.1 ts (sym t)), h.0.0.0 (part_results c p.head) a), (h.1.0, refl, h.1.2))
+pub side_turns : (c : Context) (s n : Known) (o : Open) (os : List Open) (p : Part) (around : List Part) →
+    Are s (part_results c p.head) → n ≡ record { below = s.below; here = []; dead = false } →
+    IsOpen c None s (o ∷ os) (p ∷ around) → IsOpen c None n (opened o.head true o.floor ∷ os) (turned p ∷ around)
+side_turns c s n o os p around a is h =
+    let K : Known → Type 0 = λ k. IsOpen c None k (opened o.head true o.floor ∷ os) (turned p ∷ around) in
+    subst K (sym is) (((λ ts q. sym q, λ ts t. sym t), h.0.0.0 (part_results c p.head) a), (h.1.0, refl, h.1.2, h.1.3))
 
-pub own_turns : (c : Context) (s n : Operands) (p : Part) (around : List Part) →
-    Are s (part_results c p.head) → Exactly (Are n) (λ ts. ts ≡ []) →
+pub own_turns : (c : Context) (s n : Known) (p : Part) (around : List Part) →
+    Are s (part_results c p.head) → n ≡ record { below = s.below; here = []; dead = false } →
     IsOpen c None s [] (p ∷ around) → IsOpen c None n [] (turned p ∷ around)
-own_turns c s n p around a empty h =
-    (((λ ts q. sym (empty.0 ts q), λ ts t. empty.1 ts (sym t)), h.0.0.0 (part_results c p.head) a), h.1)
+own_turns c s n p around a is h =
+    let K : Known → Type 0 = λ k. IsOpen c None k [] (turned p ∷ around) in
+    subst K (sym is) (((λ ts q. sym q, λ ts t. sym t), h.0.0.0 (part_results c p.head) a), h.1)
 
-pub no_turn : (c : Context) (s : Operands) (os : List Open) (p : Part) (around : List Part) →
+pub no_turn : (c : Context) (s : Known) (os : List Open) (p : Part) (around : List Part) →
     (Are s (part_results c p.head) → ⊥) → IsOpen c None s os (p ∷ around) → PartsTyped c None (turned p ∷ around) → ⊥
 no_turn c s os p around never h t = never (h.0.0.1 (part_results c p.head) t.1)
 
@@ -157,16 +196,16 @@ part hd first is = record { head = Some hd; first = first; instrs = is }
 pub as_part : (p : Part) (hd : Head) → p.head ≡ Some hd → p ≡ part hd p.first p.instrs
 as_part p hd e = λ j. record { head = e j; first = p.first; instrs = p.instrs }
 
-block_ends_at : (c : Context) (s n : Operands) (o : Open) (os : List Open) (first : Option (List Instr)) (is : List Instr) (q : Part) (ps : List Part) →
-    Are s (part_results c (Some o.head)) → MayEnd o.head o.turned → Gave (Are o.below) (Are n) (part_results c (Some o.head)) →
+block_ends_at : (c : Context) (s n : Known) (o : Open) (os : List Open) (first : Option (List Instr)) (is : List Instr) (q : Part) (ps : List Part) →
+    Are s (part_results c (Some o.head)) → MayEnd o.head o.turned → n.below ≡ (lower o.floor s.below).below → Gave (Are (lower o.floor s.below)) (Are n) (part_results c (Some o.head)) →
     IsOpen c None s (o ∷ os) (part o.head first is ∷ q ∷ ps) → IsOpen c None n os (with_instr (closed_part (part o.head first is)) q ∷ ps)
-block_ends_at c s n o os first is q ps a m g h =
+block_ends_at c s n o os first is q ps a m same g h =
     let L = labels_of c (q ∷ ps) in
     let hd = o.head in
     let i = instr_of (Some hd) first is in
     let M : Bool → Type 0 = λ b. MayEnd hd b in
     let typed = whole_typed c L hd first is (h.0.0.0 (part_results c (Some hd)) a) h.0.1 (subst M h.1.1 m) in
-    let below = h.1.2 in (
+    let below = h.1.3 in (
       (
         (
           λ ts r.
@@ -182,19 +221,19 @@ block_ends_at c s n o os first is q ps a m g h =
         ),
         below.0.1,
       ),
-      below.1,
+      around_same c (lower o.floor s.below) n os q (with_instr i q) ps same refl refl below.1,
     )
 
-pub block_ends : (c : Context) (s n : Operands) (o : Open) (os : List Open) (p q : Part) (ps : List Part) →
-    Are s (part_results c (Some o.head)) → MayEnd o.head o.turned → Gave (Are o.below) (Are n) (part_results c (Some o.head)) →
+pub block_ends : (c : Context) (s n : Known) (o : Open) (os : List Open) (p q : Part) (ps : List Part) →
+    Are s (part_results c (Some o.head)) → MayEnd o.head o.turned → n.below ≡ (lower o.floor s.below).below → Gave (Are (lower o.floor s.below)) (Are n) (part_results c (Some o.head)) →
     IsOpen c None s (o ∷ os) (p ∷ q ∷ ps) → IsOpen c None n os (with_instr (closed_part p) q ∷ ps)
-block_ends c s n o os p q ps a m g h =
+block_ends c s n o os p q ps a m kept g h =
     let same = as_part p o.head h.1.0 in
     let H : Part → Type 0 = λ r. IsOpen c None s (o ∷ os) (r ∷ q ∷ ps) in
     let G : Part → Type 0 = λ r. IsOpen c None n os (with_instr (closed_part r) q ∷ ps) in
-    subst G (sym same) (block_ends_at c s n o os p.first p.instrs q ps a m g (subst H same h))
+    subst G (sym same) (block_ends_at c s n o os p.first p.instrs q ps a m kept g (subst H same h))
 
-no_end_at : (c : Context) (s : Operands) (o : Open) (os : List Open) (first : Option (List Instr)) (is : List Instr) (q : Part) (ps : List Part) →
+no_end_at : (c : Context) (s : Known) (o : Open) (os : List Open) (first : Option (List Instr)) (is : List Instr) (q : Part) (ps : List Part) →
     (Are s (part_results c (Some o.head)) → MayEnd o.head o.turned → ⊥) →
     IsOpen c None s (o ∷ os) (part o.head first is ∷ q ∷ ps) → PartsTyped c None (with_instr (closed_part (part o.head first is)) q ∷ ps) → ⊥
 no_end_at c s o os first is q ps never h t =
@@ -204,7 +243,7 @@ no_end_at c s o os first is q ps never h t =
     let M : Bool → Type 0 = λ b. MayEnd o.head b in
     never (h.0.0.1 (part_results c (Some o.head)) u.side) (subst M (sym h.1.1) u.may_end)
 
-pub no_end : (c : Context) (s : Operands) (o : Open) (os : List Open) (p q : Part) (ps : List Part) →
+pub no_end : (c : Context) (s : Known) (o : Open) (os : List Open) (p q : Part) (ps : List Part) →
     (Are s (part_results c (Some o.head)) → MayEnd o.head o.turned → ⊥) →
     IsOpen c None s (o ∷ os) (p ∷ q ∷ ps) → PartsTyped c None (with_instr (closed_part p) q ∷ ps) → ⊥
 no_end c s o os p q ps never h t =
@@ -215,10 +254,10 @@ no_end c s o os p q ps never h t =
 
 -- ---- the whole body
 
-pub body_typed : (c : Context) (s : Operands) (os : List Open) (body : List Instr) → IsOpen c None s os (own body ∷ []) → Are s c.results → BodyTyped c (sequence_of body)
+pub body_typed : (c : Context) (s : Known) (os : List Open) (body : List Instr) → IsOpen c None s os (own body ∷ []) → Are s c.results → BodyTyped c (sequence_of body)
 body_typed c s os body h a = h.0.0.0 c.results a
 
-pub body_untyped : (c : Context) (s : Operands) (os : List Open) (body : List Instr) → IsOpen c None s os (own body ∷ []) → (Are s c.results → ⊥) → BodyTyped c (sequence_of body) → ⊥
+pub body_untyped : (c : Context) (s : Known) (os : List Open) (body : List Instr) → IsOpen c None s os (own body ∷ []) → (Are s c.results → ⊥) → BodyTyped c (sequence_of body) → ⊥
 body_untyped c s os body h never t = never (h.0.0.1 c.results t)
 
 -- ---- parts from the front, the innermost first

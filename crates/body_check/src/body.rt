@@ -31,7 +31,7 @@ fn check_body(alloc: Global, names: &Names<'_>, places: &[usize]) -> Result<(), 
     let last = places.len() - 1;
     let mut walk = Walk::new(alloc, names.results)?;
     for n in 0..last {
-        if let Some(word) = walk.advance(alloc, names, body.at(n))? {
+        if let Some(word) = walk.advance(names, body.at(n))? {
             return Err(ValidFault::Invalid {
                 at: places[n],
                 word,

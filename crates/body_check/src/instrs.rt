@@ -24,7 +24,8 @@ fn act_plain(
 ) -> Result<bool, OutOfMemory>
     requires names { AreNames names.now }
     requires ready { IsReady (context_in names.now) (labels_in labels.now) (Instr.Plain op) }
-    ensures { Acts result (Are operands.old) (Are operands.new) (context_in names.now) (labels_in labels.now) (Instr.Plain op) }
+    ensures below { operands.new.below ≡ operands.old.below }
+    ensures goes { Acts result (Are operands.old) (Are operands.new) (context_in names.now) (labels_in labels.now) (Instr.Plain op) }
 {
     match op {
         Plain::Unreachable => {
@@ -49,7 +50,8 @@ fn act_variable(
     requires names { AreNames names.now }
     requires kind { IsTrue (is_variable (instr_seen instr)) }
     requires ready { IsReady (context_in names.now) (labels_in labels.now) (instr_seen instr) }
-    ensures { Acts result (Are operands.old) (Are operands.new) (context_in names.now) (labels_in labels.now) (instr_seen instr.entry) }
+    ensures below { operands.new.below ≡ operands.old.below }
+    ensures goes { Acts result (Are operands.old) (Are operands.new) (context_in names.now) (labels_in labels.now) (instr_seen instr.entry) }
 {
     match instr {
         Simple::LocalGet(x) => match names::local_type(names, x) {
@@ -77,7 +79,8 @@ fn act_variable(
 }
 
 fn act_num(operands: &mut Operands, op: NumOp) -> Result<bool, OutOfMemory>
-    ensures { IfOk result (λ went. Goes went (Are operands.old) (Are operands.new) (Turns (num_takes op) (result_type op ∷ []))) }
+    ensures below { operands.new.below ≡ operands.old.below }
+    ensures goes { IfOk result (λ went. Goes went (Are operands.old) (Are operands.new) (Turns (num_takes op) (result_type op ∷ []))) }
 {
     let (ty, is_one, gives) = match op {
         NumOp::W32(op) => (ValType::I32, op.is_unary(), ValType::I32),
@@ -106,7 +109,8 @@ fn turn_over(
     takes: &[ValType],
     gives: &[ValType],
 ) -> Result<bool, OutOfMemory>
-    ensures { IfOk result (λ went. Goes went (Are operands.old) (Are operands.new) (Turns (ValType.I32 ∷ reverse takes.now) (reverse gives.now))) }
+    ensures below { operands.new.below ≡ operands.old.below }
+    ensures goes { IfOk result (λ went. Goes went (Are operands.old) (Are operands.new) (Turns (ValType.I32 ∷ reverse takes.now) (reverse gives.now))) }
 {
     if !operands.take(ValType::I32) {
         return Ok(false);
@@ -123,7 +127,8 @@ fn act_transfer(
     requires names { AreNames names.now }
     requires kind { IsTrue (is_transfer (instr_seen instr)) }
     requires ready { IsReady (context_in names.now) (labels_in labels.now) (instr_seen instr) }
-    ensures { Acts result (Are operands.old) (Are operands.new) (context_in names.now) (labels_in labels.now) (instr_seen instr.entry) }
+    ensures below { operands.new.below ≡ operands.old.below }
+    ensures goes { Acts result (Are operands.old) (Are operands.new) (context_in names.now) (labels_in labels.now) (instr_seen instr.entry) }
 {
     match instr {
         Simple::Br(l) => match names::label_at(labels, l) {
@@ -159,7 +164,8 @@ fn act(
 ) -> Result<bool, OutOfMemory>
     requires names { AreNames names.now }
     requires ready { IsReady (context_in names.now) (labels_in labels.now) (instr_seen instr) }
-    ensures { Acts result (Are operands.old) (Are operands.new) (context_in names.now) (labels_in labels.now) (instr_seen instr.entry) }
+    ensures below { operands.new.below ≡ operands.old.below }
+    ensures goes { Acts result (Are operands.old) (Are operands.new) (context_in names.now) (labels_in labels.now) (instr_seen instr.entry) }
 {
     match instr {
         Simple::Plain(op) => act_plain(operands, names, labels, op),
@@ -186,7 +192,8 @@ pub(crate) fn step(
     instr: Simple<'_>,
 ) -> Result<Option<ValidWord>, OutOfMemory>
     requires names { AreNames names.now }
-    ensures { IfOk result (λ fault. Steps fault (Are operands.old) (Are operands.new) (context_in names.now) (labels_in labels.now) (instr_seen instr.entry)) }
+    ensures below { operands.new.below ≡ operands.old.below }
+    ensures goes { IfOk result (λ fault. Steps fault (Are operands.old) (Are operands.new) (context_in names.now) (labels_in labels.now) (instr_seen instr.entry)) }
 {
     match first_need(names, labels, instr) {
         Some(word) => Ok(Some(word)),

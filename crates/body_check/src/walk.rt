@@ -1,7 +1,6 @@
 // The walk over a body, forwards and once.
 
-ghost use Rattle.std.specs.Prelude.{◌≡◌, ◌<◌, [], ◌∷◌, ◌++◌, true, false, Some, None, List, IfOk, OnOk};
-ghost use Rattle.std.specs.Vec.{vec_len, vec_capacity};
+ghost use Rattle.std.specs.Prelude.{◌≡◌, [], ◌∷◌, ◌++◌, true, false, Some, None, List, IfOk, OnOk};
 ghost use Rattle.wasm_syntax.specs.declared.flat.Flat.{Flat};
 ghost use Rattle.wasm_syntax.specs.Parts.{Part, own};
 ghost use Rattle.wasm_typing.specs.Typing.{Types, Context, types_of};
@@ -12,23 +11,22 @@ ghost use Rattle.body_check.specs.words.Walks.{IsAt, Walked, Begins, Leads, MayE
 
 use crate::instrs::step;
 use crate::names::Names;
-use crate::operands::Operands;
+use crate::operands::{Floor, Operands};
 use smallvec::SmallVec;
 use std::alloc::Global;
 use wasm_syntax::{Head, Item, Seen};
 use wasm_typing::ValidWord;
 use wasm_values::{OutOfMemory, ValType};
 
-/// A block that is open, with the operands below it. `turned` tells that its `else` was passed.
-#[derive(Drop)]
+/// A block that is open, and where the operands of the block around it begin. `turned` tells that its `else` was passed.
+#[derive(Clone, Copy)]
 pub struct Open {
     pub head: Head,
     pub turned: bool,
-    pub below: Operands,
+    pub floor: Floor,
 }
 
-/// Where a walk stands: the operands of the innermost open block, the open blocks, and what a branch to each label takes,
-/// the function's own label first.
+/// Where a walk stands: the operands, the open blocks, and what a branch to each label takes, the function's own label first.
 #[derive(Drop)]
 pub struct Walk {
     pub operands: Operands,
@@ -68,6 +66,7 @@ fn may_end(head: Head, turned: bool) -> bool
 
 /// Takes the choice of an `if`, if it is there; other blocks take none.
 fn take_choice(operands: &mut Operands, head: Head) -> bool
+    ensures below { operands.new.below ≡ operands.old.below }
     ensures yes { result ≡ true → Exactly (Are operands.new) (λ ts. Are operands.old (before_part (Some head) ts)) }
     ensures no { result ≡ false → (ts : Types) → Are operands.old (before_part (Some head) ts) → ⊥ }
 {
@@ -98,17 +97,6 @@ fn push_open(opens: &mut Vec<Open>, block: Open) -> Result<(), OutOfMemory>
     }
 }
 
-// Room comes before the block is made: a block that can still be refused is moved in pieces.
-fn make_room(opens: &mut Vec<Open>) -> Result<(), OutOfMemory>
-    ensures items { opens.new.items ≡ opens.old.items }
-    ensures room { OnOk result (vec_len opens.new < vec_capacity opens.new) }
-{
-    match opens.reserve(1) {
-        Ok(()) => Ok(()),
-        Err(_) => Err(OutOfMemory),
-    }
-}
-
 impl Walk {
     /// At the head of a body with these results.
     pub fn new(alloc: Global, results: Option<ValType>) -> Result<Walk, OutOfMemory>
@@ -126,51 +114,50 @@ impl Walk {
     }
 
     /// Opens a block, or tells that its choice isn't there.
-    fn begin(&mut self, alloc: Global, head: Head) -> Result<bool, OutOfMemory>
+    fn begin(&mut self, head: Head) -> Result<bool, OutOfMemory>
         ensures { IfOk result (λ began. (c : Context) (ps : List Part) → IsAt c self.old ps → Begins began c self.new ps head) }
     {
         if !take_choice(&mut self.operands, head) {
             return Ok(false);
         }
         push_label(&mut self.labels, label_type(head))?;
-        make_room(&mut self.opens)?;
-        let below = std::mem::replace(&mut self.operands, Operands::new(alloc));
-        self.opens.push_reserved(Open {
-            head,
-            turned: false,
-            below,
-        });
+        let floor = self.operands.begin();
+        push_open(
+            &mut self.opens,
+            Open {
+                head,
+                turned: false,
+                floor,
+            },
+        )?;
         Ok(true)
     }
 
     /// Passes an `else`, or tells that the operands aren't the results.
-    fn turn(&mut self, alloc: Global, results: Option<ValType>) -> Result<bool, OutOfMemory>
+    fn turn(&mut self, results: Option<ValType>) -> Result<bool, OutOfMemory>
         ensures { IfOk result (λ led. (c : Context) (ps : List Part) → types_of results ≡ c.results → IsAt c self.old ps → Leads led c self.new ps Flat.Else) }
     {
         match self.opens.pop() {
             Some(open) => {
-                let Open {
-                    head,
-                    turned: _,
-                    below,
-                } = open;
-                if !self.operands.finish(results_of(head)) {
+                if !self.operands.finish(results_of(open.head)) {
                     return Ok(false);
                 }
-                self.operands = Operands::new(alloc);
-                let turned = Open {
-                    head,
-                    turned: true,
-                    below,
-                };
-                push_open(&mut self.opens, turned)?;
+                self.operands.turn_side();
+                push_open(
+                    &mut self.opens,
+                    Open {
+                        head: open.head,
+                        turned: true,
+                        floor: open.floor,
+                    },
+                )?;
                 Ok(true)
             }
             None => {
                 if !self.operands.finish(results) {
                     return Ok(false);
                 }
-                self.operands = Operands::new(alloc);
+                self.operands.turn_side();
                 Ok(true)
             }
         }
@@ -182,19 +169,14 @@ impl Walk {
     {
         match self.opens.pop() {
             Some(open) => {
-                let Open {
-                    head,
-                    turned,
-                    below,
-                } = open;
-                if !may_end(head, turned) {
+                if !may_end(open.head, open.turned) {
                     return Ok(false);
                 }
-                if !self.operands.finish(results_of(head)) {
+                if !self.operands.finish(results_of(open.head)) {
                     return Ok(false);
                 }
-                self.operands = below;
-                self.operands.give_with(results_of(head))?;
+                self.operands.end(open.floor);
+                self.operands.give_with(results_of(open.head))?;
                 let _ = self.labels.pop();
                 Ok(true)
             }
@@ -205,7 +187,6 @@ impl Walk {
     /// Goes on behind an item, or tells what is wrong with it.
     pub fn advance(
         &mut self,
-        alloc: Global,
         names: &Names<'_>,
         item: &Item,
     ) -> Result<Option<ValidWord>, OutOfMemory>
@@ -220,10 +201,10 @@ impl Walk {
                 self.labels.as_slice(),
                 instr,
             ),
-            Seen::Block(ty) => self.begin(alloc, Head::Block(ty))?,
-            Seen::Loop(ty) => self.begin(alloc, Head::Loop(ty))?,
-            Seen::If(ty) => self.begin(alloc, Head::If(ty))?,
-            Seen::Else => self.turn(alloc, names.results)?,
+            Seen::Block(ty) => self.begin(Head::Block(ty))?,
+            Seen::Loop(ty) => self.begin(Head::Loop(ty))?,
+            Seen::If(ty) => self.begin(Head::If(ty))?,
+            Seen::Else => self.turn(names.results)?,
             Seen::End => self.end()?,
         };
         if led {

@@ -32,7 +32,7 @@ Reached c body n = Stands c (parts_before body n) × TypedBefore c body n
 begun : (c : Context) (body : List Instr) → Reached c body 0
 begun c body =
     let M : List Part → Type 0 = λ ps. Stands c ps in
-    let start : Stands c (own [] ∷ []) = record { here = operands [] false; opens = []; stand = (((λ ts a. sym a, λ ts a. sym a), tt), (refl, refl)) } in
+    let start : Stands c (own [] ∷ []) = record { here = operands [] [] false; opens = []; stand = (((λ ts a. sym a, λ ts a. sym a), tt), (refl, refl)) } in
     (subst M (sym (first_parts body)) start, λ k less. absurd (omega (arith, less)))
 
 -- the item at a place is no fault

@@ -1,8 +1,9 @@
 -- The operands that the validator keeps, as the operand types that they stand for.
-use Rattle.std.specs.Prelude.{◌≡◌, Bool, true, false, List, [], ◌∷◌, ◌++◌, reverse, Option, Some, None}
+use Rattle.std.specs.Prelude.{◌≡◌, Bool, true, false, List, [], ◌∷◌, ◌++◌, reverse, take, drop, Option, Some, None}
 use Rattle.wasm_values.specs.declared.number.ValType.{ValType}
-use Rattle.body_check.specs.declared.operands.Operands.{Operands}
 use Rattle.wasm_typing.specs.Typing.{Types}
+use Rattle.body_check.specs.words.Known.{Known}
+use Rattle.body_check.specs.declared.operands.Floor.{Floor}
 
 -- An operand whose type is unknown may have any.
 abbrev pub IsOfType : Option ValType → ValType → Type 0
@@ -22,9 +23,18 @@ StandsFor [] false ts = ts ≡ []
 StandsFor (k ∷ ks) dead [] = ⊥
 StandsFor (k ∷ ks) dead (t ∷ ts) = IsOfType k t × StandsFor ks dead ts
 
--- The operands that the validator keeps, the topmost last, stand for these types, the topmost first.
-abbrev pub Are : Operands → Types → Type 0
-Are s ts = StandsFor (reverse s.items.items) s.dead ts
+-- The innermost block's operands that the validator keeps, the topmost last, stand for these types, the topmost first.
+abbrev pub Are : Known → Types → Type 0
+Are s ts = StandsFor (reverse s.here) s.dead ts
+
+-- Operands as they are when the innermost block is gone, above which those below it began at this floor.
+abbrev pub lower : Floor → List (Option ValType) → Known
+lower f below = record { below = take f.base below; here = drop f.base below; dead = f.dead }
+
+-- The topmost operand of a block is taken off, if it has one.
+abbrev pub Popped : Option (Option ValType) → Known → Known → Type 0
+Popped None s n = (s.here ≡ []) × (n ≡ s)
+Popped (Some k) s n = (s.here ≡ n.here ++ k ∷ []) × (n.below ≡ s.below) × (n.dead ≡ s.dead)
 
 -- The same types have both.
 abbrev pub Exactly : (P Q : Types → Type 0) → Type 0

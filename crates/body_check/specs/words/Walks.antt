@@ -1,5 +1,5 @@
 -- The walk of the validator over a body: what it keeps says exactly which operands the open parts may leave.
-use Rattle.std.specs.Prelude.{◌≡◌, List, [], ◌∷◌, reverse, is_some, Option, Some, None, Bool, true, false, IsTrue}
+use Rattle.std.specs.Prelude.{◌≡◌, ◌≤◌, List, [], ◌∷◌, reverse, length, is_some, Option, Some, None, Bool, true, false, IsTrue}
 use Rattle.wasm_syntax.specs.declared.flat.Flat.{Flat}
 use Rattle.wasm_syntax.specs.declared.flat.Flat.TheVariants as flat
 use Rattle.wasm_syntax.specs.declared.flat.Head.{Head}
@@ -8,14 +8,15 @@ use Rattle.wasm_syntax.specs.FlatForm.{is_simple}
 use Rattle.wasm_syntax.specs.Trees.{sequence_of, instruction_of}
 use Rattle.wasm_syntax.specs.Parts.{Part, begun, with_instr, turned, closed_part}
 use Rattle.wasm_typing.specs.declared.fault.ValidWord.{ValidWord}
-use Rattle.body_check.specs.declared.operands.Operands.{Operands}
+use Rattle.wasm_values.specs.declared.number.ValType.{ValType}
 use Rattle.body_check.specs.declared.walk.Open.{Open}
 use Rattle.body_check.specs.declared.walk.Walk.{Walk}
 use Rattle.wasm_typing.specs.Typing.{Context, types_of, SequenceTyped}
 use Rattle.wasm_typing.specs.faults.Open.{labels_of, before_part, FirstSideTyped, PartsTyped}
 use Rattle.wasm_typing.specs.Valid.{InstructionInRange}
 use Rattle.wasm_typing.specs.faults.Faults.{item_word}
-use Rattle.body_check.specs.words.Operands.{Are, Exactly}
+use Rattle.body_check.specs.words.Known.{Known}
+use Rattle.body_check.specs.words.Operands.{Are, Exactly, lower}
 use Rattle.body_check.specs.words.Steps.{labels_in}
 
 -- Open parts, the innermost first, after one more item.
@@ -32,21 +33,21 @@ then_inner (p ∷ []) flat.End = p ∷ []
 then_inner (p ∷ q ∷ ps) flat.End = with_instr (closed_part p) q ∷ ps
 
 -- Operands are exactly those that a part's instructions so far leave below the next part.
-abbrev pub IsHere : Context → (inner : Option Head) → Operands → Part → List Part → Type 0
+abbrev pub IsHere : Context → (inner : Option Head) → Known → Part → List Part → Type 0
 IsHere c inner s p around =
     Exactly (Are s) (λ below. SequenceTyped c (labels_of c (p ∷ around)) (sequence_of p.instrs) [] (before_part inner below))
     × FirstSideTyped c (labels_of c (p ∷ around)) p.head p.first
 
--- The blocks that are open around a part, by the rest of them.
-abbrev pub IsAround : Part → List Open → List Part → (Open → List Open → Type 0) → Type 0
-IsAround p [] around rest = (p.head ≡ None) × (around ≡ [])
-IsAround p (o ∷ os) around rest = (p.head ≡ Some o.head) × (o.turned ≡ is_some p.first) × rest o os
+-- The blocks that are open around a part, over the operands below it, by the rest of them.
+abbrev pub IsAround : Part → List (Option ValType) → List Open → List Part → (Open → List Open → Type 0) → Type 0
+IsAround p below [] around rest = (p.head ≡ None) × (around ≡ [])
+IsAround p below (o ∷ os) around rest = (p.head ≡ Some o.head) × (o.turned ≡ is_some p.first) × (o.floor.base ≤ length below) × rest o os
 
 -- Operands and open blocks, the innermost first, stand for open parts.
-abbrev pub IsOpen : Context → (inner : Option Head) → Operands → List Open → List Part → Type 0
+abbrev pub IsOpen : Context → (inner : Option Head) → Known → List Open → List Part → Type 0
 IsOpen c inner s os [] = ⊥
 IsOpen c inner s os (p ∷ around) =
-    IsHere c inner s p around × IsAround p os around (λ o os'. IsOpen c p.head o.below os' around)
+    IsHere c inner s p around × IsAround p s.below os around (λ o os'. IsOpen c p.head (lower o.floor s.below) os' around)
 
 -- A walk stands at these open parts.
 pub record IsAt (c : Context) (w : Walk) (ps : List Part) : Type 0 where

@@ -9,18 +9,18 @@ use Rattle.body_check.specs.words.Steps.{context_in, labels_in}
 use Rattle.body_check.proofs.ActLemmas.{acts_as, same_self, same_turns, same_load, same_store, ready_along}
 use Rattle.body_check.proofs.instrs.act.Goals as goal
 
-pub returns-in-Num : goal.returns-in-Num
-returns-in-Num c =
-    acts_as c.act_num.result (Are c.args.operands.now) (Are c.act_num.new.operands) (Turns (num_takes c.in-Num.op) (result_type c.in-Num.op ∷ [])) (context_in c.args.names.now) (labels_in c.args.labels.now) (instr_seen c.args.instr) (source.Num c.in-Num.op) (ap instr_seen c.in-Num.is) (same_self _) c.act_num.ensures
+pub returns-in-Num-clause-goes : goal.returns-in-Num-clause-goes
+returns-in-Num-clause-goes c =
+    acts_as c.act_num.result (Are c.args.operands.now) (Are c.act_num.new.operands) (Turns (num_takes c.in-Num.op) (result_type c.in-Num.op ∷ [])) (context_in c.args.names.now) (labels_in c.args.labels.now) (instr_seen c.args.instr) (source.Num c.in-Num.op) (ap instr_seen c.in-Num.is) (same_self _) c.act_num.ensures.goes
 
-pub returns-in-Const : goal.returns-in-Const
-returns-in-Const c =
-    acts_as c.turn.result (Are c.args.operands.now) (Are c.turn.new.self) (Turns [] (c.ty.result ∷ [])) (context_in c.args.names.now) (labels_in c.args.labels.now) (instr_seen c.args.instr) (source.Const c.in-Const.value) (ap instr_seen c.in-Const.is) (same_turns [] [] _ (type_of c.in-Const.value ∷ []) refl (ap (λ t. t ∷ []) c.ty.ensures)) c.turn.ensures
+pub returns-in-Const-clause-goes : goal.returns-in-Const-clause-goes
+returns-in-Const-clause-goes c =
+    acts_as c.turn.result (Are c.args.operands.now) (Are c.turn.new.self) (Turns [] (c.ty.result ∷ [])) (context_in c.args.names.now) (labels_in c.args.labels.now) (instr_seen c.args.instr) (source.Const c.in-Const.value) (ap instr_seen c.in-Const.is) (same_turns [] [] _ (type_of c.in-Const.value ∷ []) refl (ap (λ t. t ∷ []) c.ty.ensures)) c.turn.ensures.goes
 
-pub returns-in-Load : goal.returns-in-Load
-returns-in-Load c =
-    acts_as c.turn-in-Load.result (Are c.args.operands.now) (Are c.turn-in-Load.new.self) (Turns (I32 ∷ []) (c.loaded_type.result ∷ [])) (context_in c.args.names.now) (labels_in c.args.labels.now) (instr_seen c.args.instr) (source.Load c.in-Load.op c.in-Load.field-1 c.in-Load.field-2) (ap instr_seen c.in-Load.is) (same_load (context_in c.args.names.now) (labels_in c.args.labels.now) c.in-Load.op c.in-Load.field-1 c.in-Load.field-2 c.loaded_type.result c.loaded_type.ensures (ready_along (context_in c.args.names.now) (labels_in c.args.labels.now) (instr_seen c.args.instr) (source.Load c.in-Load.op c.in-Load.field-1 c.in-Load.field-2) (ap instr_seen c.in-Load.is) c.requires.ready)) c.turn-in-Load.ensures
+pub returns-in-Load-clause-goes : goal.returns-in-Load-clause-goes
+returns-in-Load-clause-goes c =
+    acts_as c.turn-in-Load.result (Are c.args.operands.now) (Are c.turn-in-Load.new.self) (Turns (I32 ∷ []) (c.loaded_type.result ∷ [])) (context_in c.args.names.now) (labels_in c.args.labels.now) (instr_seen c.args.instr) (source.Load c.in-Load.op c.in-Load.field-1 c.in-Load.field-2) (ap instr_seen c.in-Load.is) (same_load (context_in c.args.names.now) (labels_in c.args.labels.now) c.in-Load.op c.in-Load.field-1 c.in-Load.field-2 c.loaded_type.result c.loaded_type.ensures (ready_along (context_in c.args.names.now) (labels_in c.args.labels.now) (instr_seen c.args.instr) (source.Load c.in-Load.op c.in-Load.field-1 c.in-Load.field-2) (ap instr_seen c.in-Load.is) c.requires.ready)) c.turn-in-Load.ensures.goes
 
-pub returns-in-Store : goal.returns-in-Store
-returns-in-Store c =
-    acts_as c.turn-in-Store.result (Are c.args.operands.now) (Are c.turn-in-Store.new.self) (Turns (c.stored_type.result ∷ I32 ∷ []) []) (context_in c.args.names.now) (labels_in c.args.labels.now) (instr_seen c.args.instr) (source.Store c.in-Store.op c.in-Store.field-1 c.in-Store.field-2) (ap instr_seen c.in-Store.is) (same_store (context_in c.args.names.now) (labels_in c.args.labels.now) c.in-Store.op c.in-Store.field-1 c.in-Store.field-2 c.stored_type.result c.stored_type.ensures (ready_along (context_in c.args.names.now) (labels_in c.args.labels.now) (instr_seen c.args.instr) (source.Store c.in-Store.op c.in-Store.field-1 c.in-Store.field-2) (ap instr_seen c.in-Store.is) c.requires.ready)) c.turn-in-Store.ensures
+pub returns-in-Store-clause-goes : goal.returns-in-Store-clause-goes
+returns-in-Store-clause-goes c =
+    acts_as c.turn-in-Store.result (Are c.args.operands.now) (Are c.turn-in-Store.new.self) (Turns (c.stored_type.result ∷ I32 ∷ []) []) (context_in c.args.names.now) (labels_in c.args.labels.now) (instr_seen c.args.instr) (source.Store c.in-Store.op c.in-Store.field-1 c.in-Store.field-2) (ap instr_seen c.in-Store.is) (same_store (context_in c.args.names.now) (labels_in c.args.labels.now) c.in-Store.op c.in-Store.field-1 c.in-Store.field-2 c.stored_type.result c.stored_type.ensures (ready_along (context_in c.args.names.now) (labels_in c.args.labels.now) (instr_seen c.args.instr) (source.Store c.in-Store.op c.in-Store.field-1 c.in-Store.field-2) (ap instr_seen c.in-Store.is) c.requires.ready)) c.turn-in-Store.ensures.goes

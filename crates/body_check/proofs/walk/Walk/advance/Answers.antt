@@ -11,4 +11,4 @@ pub returns-in-One : goal.returns-in-One
 returns-in-One c =
     let after : Walk = record { operands = c.step.new.operands; opens = c.args.self.now.opens; labels = c.args.self.now.labels } in
     let S : List (Option ValType) → Type 0 = λ xs. IfOk c.step.result (λ fault. Steps fault (Are c.args.self.now.operands) (Are c.step.new.operands) (context_in c.args.names.now) (labels_in xs) (instr_seen c.in-One.instr)) in
-    all_walked c.step.result (context_in c.args.names.now) c.args.self.now after (instr_seen c.in-One.instr) c.args.item.now c.in-One.ensures refl refl (subst S c.as_slice.ensures c.step.ensures)
+    all_walked c.step.result (context_in c.args.names.now) c.args.self.now after (instr_seen c.in-One.instr) c.args.item.now c.in-One.ensures c.step.ensures.below refl refl (subst S c.as_slice.ensures c.step.ensures.goes)

@@ -18,8 +18,8 @@ returns-in_ok-give_with-in-Some c =
     λ c2 ps h.
     let after : Walk = record { operands = c.give_with.new.self; opens = c.pop.new.self; labels = c.pop-in-Some.new.self } in
     let A : Types → Type 0 = λ ts. Are c.args.self.now.operands ts in
-    let G : Types → Type 0 = λ ts. Gave (Are c.in-Some.open.below) (Are c.give_with.new.self) ts in
-    ends c2 c.args.self.now after c.in-Some.open c.pop.new.self.items ps c.in-Some.ensures.items refl
+    let G : Types → Type 0 = λ ts. Gave (Are c.end.new.self) (Are c.give_with.new.self) ts in
+    ends c2 c.args.self.now after c.finish.new.self c.end.new.self c.in-Some.open c.pop.new.self.items ps c.in-Some.ensures.items refl
     (labels_popped c.args.self.now.labels.items c.pop-in-Some.new.self.items c.pop-in-Some.result c.pop-in-Some.ensures.items c.pop-in-Some.ensures.variant.1)
     (subst A (c.results_of.ensures c2) (c.if-not-finish.ensures.yes refl)) (c.if-not-may_end.ensures.yes refl)
-    (subst G (c.results_of-in-Some.ensures c2) c.in_ok-give_with-in-Some.ensures) h
+    c.if-not-finish.ensures.below c.end.ensures c.in_ok-give_with-in-Some.ensures.below (subst G (c.results_of-in-Some.ensures c2) c.in_ok-give_with-in-Some.ensures.gave) h
