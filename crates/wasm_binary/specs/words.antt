@@ -1,2 +1,3 @@
 -- Words of proofs and of private contracts.
+pub mod Drafts
 pub mod Kinds

@@ -6,6 +6,7 @@ ghost use Rattle.binary_grammar.specs.ModuleGrammar.{Spells, InLimits};
 ghost use Rattle.binary_grammar.specs.Plans.{Fault, Refused};
 ghost use Rattle.binary_grammar.specs.Bounds.{the_bounds};
 ghost use Rattle.binary_grammar.specs.words.Reading.{Gives};
+ghost use Rattle.wasm_binary.specs.words.Drafts.{finished};
 ghost use Rattle.wasm_binary.specs.words.Kinds.{is_late};
 ghost use Rattle.binary_grammar.specs.words.SectionReading.{after_of, with_section, no_sections, sections_at, funcs_of, places_of, finished_at, header, magic_at, header_at, module_at};
 
@@ -13,6 +14,7 @@ use crate::read::{malformed, place};
 use crate::sections::read_section;
 use binary_grammar::{Body, DecodeFault, DecodeWord, Decoded, Draft, Section};
 use std::alloc::Global;
+use std::mem;
 use wasm_syntax::{Custom, Func, Marks, Module};
 use wasm_values::{List, OutOfMemory};
 
@@ -205,55 +207,36 @@ fn join_funcs(
     Ok((funcs, code))
 }
 
-/// A module and its marks, with these functions, of bytes of this length.
-fn with_funcs(
-    module: Module,
-    marks: Marks,
-    joined: (List<Func>, List<List<usize>>),
-    len: usize,
-) -> Decoded
-    ensures { result ≡ record { «module» = record «module» { funcs = joined.0 }; marks = record marks { len = len; code = joined.1 } } }
-{
-    let (mut module, mut marks) = (module, marks);
-    module.funcs = joined.0;
-    marks.len = len;
-    marks.code = joined.1;
-    Decoded { module, marks }
-}
-
-/// The module and its marks with the functions of these types and bodies, of bytes of this length.
+/// Puts the functions of a draft's types and bodies into its module, and their places and the length of the bytes into its
+/// marks.
 #[tactic(auto, unfolding(binary_grammar::specs::words::SectionReading::finished_at))]
-fn finish_parts(
-    alloc: Global,
-    module: Module,
-    marks: Marks,
-    declared: List<u32>,
-    bodies: List<Body>,
-    len: usize,
-) -> Result<Decoded, DecodeFault>
-    ensures { Gives (λ d. d) result (finished_at len (record { «module» = «module»; marks = marks; declared = declared; bodies = bodies; last = 0; after = 0 })) }
+fn finish(alloc: Global, draft: &mut Draft, len: usize) -> Result<(), DecodeFault>
+    ensures { Gives (λ u. finished draft.new) result (finished_at len draft.old) }
 {
-    if bodies.len() != declared.len() {
+    if draft.bodies.len() != draft.declared.len() {
         return Err(malformed(len, DecodeWord::Count));
     }
-    let joined = join_funcs(alloc, declared.as_slice(), bodies)?;
-    Ok(with_funcs(module, marks, joined, len))
+    let bodies = mem::replace(&mut draft.bodies, List::new(alloc));
+    let (funcs, code) = join_funcs(alloc, draft.declared.as_slice(), bodies)?;
+    draft.module.funcs = funcs;
+    draft.marks.len = len;
+    draft.marks.code = code;
+    Ok(())
 }
 
-/// The module behind its last section, of bytes of this length.
-#[tactic(auto, unfolding(binary_grammar::specs::words::SectionReading::finished_at))]
-fn finish(alloc: Global, draft: Draft, len: usize) -> Result<Decoded, DecodeFault>
-    ensures { Gives (λ d. d) result (finished_at len draft) }
+/// The module of a finished draft, and its marks.
+fn take_apart(draft: Draft) -> Decoded
+    ensures { result ≡ finished draft }
 {
     let Draft {
         module,
         marks,
-        declared,
-        bodies,
+        declared: _,
+        bodies: _,
         last: _,
         after: _,
     } = draft;
-    finish_parts(alloc, module, marks, declared, bodies, len)
+    Decoded { module, marks }
 }
 
 #[tactic(auto, unfolding(binary_grammar::specs::words::SectionReading::magic_at, binary_grammar::specs::words::Reading::then_at, binary_grammar::specs::words::Reading::done_at))]
@@ -285,15 +268,25 @@ fn read_header(bytes: &[u8], end: usize) -> Result<&[u8], DecodeFault>
     read_magic(&HEADER, bytes, end)
 }
 
+/// Reads all of the bytes into a draft that has no sections yet, and finishes it.
 #[tactic(auto, unfolding(binary_grammar::specs::words::SectionReading::module_at, binary_grammar::specs::words::Reading::then_at, binary_grammar::specs::words::Reading::done_at))]
-fn read_module(alloc: Global, bytes: &[u8]) -> Result<Decoded, DecodeFault>
-    ensures { Gives (λ d. d) result (module_at the_bounds bytes.now) }
+fn read_draft(alloc: Global, draft: &mut Draft, bytes: &[u8]) -> Result<(), DecodeFault>
+    requires { draft.old ≡ no_sections }
+    ensures { Gives (λ u. finished draft.new) result (module_at the_bounds bytes.now) }
 {
     let end = bytes.len();
     let rest = read_header(bytes, end)?;
-    let mut draft = new_draft(alloc);
-    read_sections(alloc, &mut draft, rest, end)?;
+    read_sections(alloc, draft, rest, end)?;
     finish(alloc, draft, end)
+}
+
+// One call owns the draft, and has one way out beside its answer: each such way drops all lists of a module and its marks.
+fn read_module(alloc: Global, bytes: &[u8]) -> Result<Decoded, DecodeFault>
+    ensures { Gives (λ d. d) result (module_at the_bounds bytes.now) }
+{
+    let mut draft = new_draft(alloc);
+    read_draft(alloc, &mut draft, bytes)?;
+    Ok(take_apart(draft))
 }
 
 /// The module that the bytes spell within the limits, and where its entries stand.
