@@ -69,3 +69,7 @@ module _ {C : Type 0} (word : LimitWord) where
   made_then true true v a eff g f again same = again ∙ past v f (eff a) g same
   made_then true false v a eff g f again same = refl
   made_then false q v a eff g f again same = refl
+
+-- what is wanted after a part that was met, in a state that is the same
+pub met-then : {A B : Type 0} {S : Type 0} (r : Ruling A) (a : A) (next : A → S → Ruling B) (s t : S) → r ≡ Ok a → s ≡ t → next a s ≡ (r >>= λ v. next v t)
+met-then r a next s t met same = (λ j. next a (same j)) ∙ sym (ap (λ q. q >>= λ v. next v t) met)

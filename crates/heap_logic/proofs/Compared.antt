@@ -1,16 +1,20 @@
 -- What facts and terms of a shape are, by their parts.
 use Rattle.std.proofs.Common.{◌≡◌, ℕ, ℤ, Bool, true, false, ◌&&◌, List, Option, Some, None, refl, sym, ap, ◌∙◌}
-use Rattle.std.specs.Prelude.{pos, option_map, option_and_then}
+use Rattle.std.specs.Prelude.{pos, option_map, option_and_then, unwrap_or}
 use Rattle.std.specs.Ordering.{int_eq}
+use Rattle.term_trees.specs.declared.term.Place.{Place}
+use Rattle.term_trees.specs.declared.term.Place.TheVariants as place
+use Rattle.term_trees.specs.contracts.term.PlacePartialEq.TheImpl as places
 use Rattle.term_trees.specs.declared.term.Term.{Term, fold-roll-Term}
 use Rattle.term_trees.specs.declared.term.Term.TheOpen as layer
 use Rattle.term_trees.specs.declared.term.Term.TheVariants as term
 use Rattle.term_trees.specs.declared.term.Formula.{Formula, fold-roll-Formula}
 use Rattle.term_trees.specs.declared.term.Formula.TheOpen as open_form
 use Rattle.term_trees.specs.declared.term.Formula.TheVariants as formula
-use Rattle.term_trees.specs.Views.{num_of, sum_of, product_of, eq_of, le_of, lt_of}
+use Rattle.term_trees.specs.Views.{num_of, place_of, sum_of, product_of, eq_of, le_of, lt_of}
 use Rattle.term_trees.specs.Same.{passes, same_here, same, same_formula_here, same_formula}
 use Rattle.term_logic.specs.Table.{tree_at}
+use Rattle.heap_logic.specs.words.Shifts.{shift_leaves}
 use Rattle.heap_logic.proofs.Symmetric.{same-turned, term-turned}
 
 -- ---- terms of a shape
@@ -32,6 +36,33 @@ module _ (t : Term) where
       term-turned t (term.Mul a b) ∙ ap (λ u. same u t) (sym (term.rolls-Mul a b))
       ∙ ap (λ test. test t) (fold-roll-Term (Term → Bool) same_here (layer.Mul a b))
       ∙ (λ j. passes (product_of t) (λ p. term-turned a p.0 j && term-turned b p.1 j))
+
+  pub place-is : (q : Place) → same (term.At q) t ≡ passes (place_of t) (λ p. (places.ghosts).eq q p)
+  place-is q = ap (λ v. same v t) (sym (term.rolls-At q)) ∙ ap (λ test. test t) (fold-roll-Term (Term → Bool) same_here (layer.At q))
+
+-- the sum of `(index)` and a term
+pub is-index-sum : (t b : Term) → same (term.Add (term.At place.Index) b) t ≡ passes (sum_of t) (λ p. passes (place_of p.0) (λ q. (places.ghosts).eq place.Index q) && same b p.1)
+is-index-sum t b =
+    ap (λ u. same u t) (sym (term.rolls-Add (term.At place.Index) b))
+    ∙ ap (λ test. test t) (fold-roll-Term (Term → Bool) same_here (layer.Add (term.At place.Index) b))
+    ∙ (λ j. passes (sum_of t) (λ p. place-is p.0 place.Index j && same b p.1))
+
+-- every place of a row's formula but `(index)` stays
+pub place-stays : (b : Term) (p : Place) → (p ≡ place.Index → ⊥) → unwrap_or ((shift_leaves b).place p) (term.At p) ≡ term.At p
+place-stays b (place.Local k) h = refl
+place-stays b (place.Stack k) h = refl
+place-stays b (place.Global k) h = refl
+place-stays b place.Pages h = refl
+place-stays b (place.Arg k) h = refl
+place-stays b place.Result h = refl
+place-stays b place.Index h = absurd (h refl)
+place-stays b place.Item h = refl
+
+pub ruleset place_tests = (place-is, place-stays)
+
+pub ruleset index_sums = (is-index-sum)
+
+pub ruleset turned_tests = (same-turned)
 
 -- ---- facts of a shape
 

@@ -22,6 +22,8 @@ pub extends-then : (a b c : List Term) → Extends a b → Extends b c → Exten
 extends-then a b c first second =
     extended a c (omega (arith, first.longer, second.longer)) (λ i h. second.kept i (omega (arith, first.longer)) ∙ first.kept i h)
 
+pub ruleset growths = (extends-then)
+
 module _ (old new : List Term) (more : Extends old new) where
   pub chunk_of-kept : (c : IdChunk) → ChunkWithin (length old) c → chunk_of new c ≡ chunk_of old c
   chunk_of-kept (Cell width at value) w = λ j. tree.Cell width (more.kept at w.0 j) (more.kept value w.1 j)

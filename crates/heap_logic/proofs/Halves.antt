@@ -1,6 +1,6 @@
 -- The nodes of the fact that joins two halves.
 use Rattle.std.proofs.Common.{◌≡◌, ℕ, ◌+◌, ◌^◌, sym, ap, ◌∙◌, arith}
-use Rattle.std.specs.Prelude.{pos}
+use Rattle.std.specs.Prelude.{pos, nat_le, Ok}
 use Rattle.term_trees.specs.declared.term.Term.{Term, fold-roll-Term}
 use Rattle.term_trees.specs.declared.term.Term.TheOpen as layer
 use Rattle.term_trees.specs.declared.term.Term.TheVariants as term
@@ -11,7 +11,8 @@ use Rattle.term_trees.specs.Terms.{nodes_here, node_count}
 use Rattle.term_trees.specs.Formulas.{formula_nodes_here, formula_nodes}
 use Rattle.outline_rules.specs.States.{number}
 use Rattle.outline_rules.specs.HeapMoves.{joined_value}
-use Rattle.heap_logic.proofs.Takings.{nodes-mul, nodes-add, nodes-number}
+use Rattle.heap_logic.specs.words.Plans.{joined_made}
+use Rattle.heap_logic.proofs.Takings.{made-part, made-small, nodes-mul, nodes-add, nodes-number}
 
 nodes-variable : (k : ℕ) → node_count (term.Var k) ≡ 1
 nodes-variable k = ap node_count (sym (term.rolls-Var k)) ∙ fold-roll-Term ℕ nodes_here (layer.Var k)
@@ -24,5 +25,20 @@ nodes-halves h k m t =
     let u = term.Var k in
     let v = term.Var m in
     omega (arith, nodes-eq t (joined_value h u v), nodes-add u (term.Mul (number (256 ^ h)) v), nodes-mul (number (256 ^ h)) v, nodes-number (256 ^ h), nodes-variable k, nodes-variable m)
+
+nodes-joined : (h k m : ℕ) → node_count (joined_value h (term.Var k) (term.Var m)) ≡ 5
+nodes-joined h k m =
+    let u = term.Var k in
+    let v = term.Var m in
+    omega (arith, nodes-add u (term.Mul (number (256 ^ h)) v), nodes-mul (number (256 ^ h)) v, nodes-number (256 ^ h), nodes-variable k, nodes-variable m)
+
+-- two variables join within the limit
+pub halves-fit : (h k m : ℕ) → joined_made h (term.Var k) (term.Var m) ≡ Ok (joined_value h (term.Var k) (term.Var m))
+halves-fit h k m =
+    let u = term.Var k in
+    let v = term.Var m in
+    made-part u (term.Mul (number (256 ^ h)) v) ∙ made-small (joined_value h u v) (ap (λ n. nat_le n 4096) (nodes-joined h k m))
+
+pub ruleset halves_fit = (halves-fit)
 
 pub ruleset halves_nodes = (nodes-halves, nodes-number)

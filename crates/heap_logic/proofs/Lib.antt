@@ -1,10 +1,15 @@
 pub mod Alike
+pub mod Applied
 pub mod Binds
+pub mod Committed
 pub mod Compared
+pub mod FactForms
 pub mod Growing
 pub mod Halves
 pub mod Moved
+pub mod Picking
 pub mod Planning
+pub mod RowLeaves
 pub mod RowMoved
 pub mod Slots
 pub mod Sums

@@ -1,5 +1,5 @@
 -- The state of trees that a heap over a table stands for, with the terms of its slots.
-use Rattle.std.specs.Prelude.{◌≡◌, ℕ, ◌<◌, ◌≤◌, List, [], map, reverse, Option, None, option_map}
+use Rattle.std.specs.Prelude.{◌≡◌, ℕ, ◌<◌, ◌≤◌, List, [], map, reverse, Option, None, option_map, IsTrue}
 use Rattle.std.specs.List.{All}
 use Rattle.term_trees.specs.declared.term.Place.{Place}
 use Rattle.term_trees.specs.declared.term.Term.{Term}
@@ -8,6 +8,7 @@ use Rattle.term_logic.specs.declared.leaves.LeafIds.{LeafIds}
 use Rattle.term_logic.specs.Table.{tree_at}
 use Rattle.term_logic.specs.Formulas.{formula_bound, formula_of}
 use Rattle.term_logic.specs.Leaves.{place_id}
+use Rattle.notes.specs.WellFormed.{is_width}
 use Rattle.notes.specs.declared.chunk.Chunk.{Chunk}
 use Rattle.notes.specs.declared.chunk.Chunk.TheVariants as tree
 use Rattle.heap_logic.specs.declared.heap.IdChunk.{IdChunk}
@@ -32,6 +33,16 @@ ChunkWithin n (Row width at count each) = (at < n) × (count < n) × (formula_bo
 pub record HeapWithin (n : ℕ) (h : SymHeap) : Type 0 where
   pub facts : All (λ f. formula_bound f ≤ n) h.facts
   pub chunks : All (λ c. ChunkWithin n c) h.chunks
+
+-- a chunk of cells has a width of 1, 2, 4 or 8 bytes
+abbrev pub HasWidth : IdChunk → Type 0
+HasWidth (Cell width at value) = IsTrue (is_width width)
+HasWidth (Region at len) = Unit {0}
+HasWidth (Row width at count each) = IsTrue (is_width width)
+
+-- All cells and rows of a heap have a width of 1, 2, 4 or 8 bytes.
+abbrev pub HasWidths : SymHeap → Type 0
+HasWidths h = All HasWidth h.chunks
 
 -- The slots have no other leaves than those of a state: variables stand for themselves.
 pub record AreSlots (l : LeafIds) : Type 0 where

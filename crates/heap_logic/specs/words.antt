@@ -1,3 +1,4 @@
+pub mod Commits
 pub mod Effects
 pub mod Leaves
 pub mod Limits
@@ -5,4 +6,5 @@ pub mod Making
 pub mod Planned
 pub mod Plans
 pub mod RowPlans
+pub mod Shifts
 pub mod Wanted

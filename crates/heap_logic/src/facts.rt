@@ -148,3 +148,52 @@ pub(crate) fn says_below(table: &TermTable, heap: &SymHeap, fact: u32, a: TermId
         None => false,
     }
 }
+
+/// Whether a term is a number times another.
+#[tactic(auto, using(crate::proofs::Compared::term_shapes))]
+fn is_scaled(table: &TermTable, id: TermId, n: u32, a: TermId) -> bool
+    requires product { id < length table.now }
+    requires factor { a < length table.now }
+    ensures { result ≡ same (tree_at table.now id) (term.Mul (number n) (tree_at table.now a)) }
+{
+    match table.product_of(id) {
+        Some((x, y)) => is_number(table, x, n) && table.same_tree(y, a),
+        None => false,
+    }
+}
+
+/// Whether a term is the address behind so many cells of a width.
+#[tactic(auto, using(crate::proofs::Compared::term_shapes))]
+fn is_row_end(table: &TermTable, id: TermId, at: TermId, width: u32, count: TermId) -> bool
+    requires sum { id < length table.now }
+    requires address { at < length table.now }
+    requires count { count < length table.now }
+    ensures { result ≡ same (tree_at table.now id) (term.Add (tree_at table.now at) (term.Mul (number width) (tree_at table.now count))) }
+{
+    match table.sum_of(id) {
+        Some((x, y)) => table.same_tree(x, at) && is_scaled(table, y, width, count),
+        None => false,
+    }
+}
+
+/// Whether the fact with a number says that a term is the address behind so many cells of a width.
+pub(crate) fn says_row_end(
+    table: &TermTable,
+    heap: &SymHeap,
+    fact: u32,
+    end: TermId,
+    at: TermId,
+    width: u32,
+    count: TermId,
+) -> bool
+    requires heap { HeapWithin (length table.now) heap.now }
+    requires end { end < length table.now }
+    requires address { at < length table.now }
+    requires count { count < length table.now }
+    ensures { result ≡ is_fact (bare table.now heap.now) fact (formula.Eq (tree_at table.now end) (term.Add (tree_at table.now at) (term.Mul (number width) (tree_at table.now count)))) }
+{
+    match equation_in(table, heap, fact) {
+        Some((x, y)) => table.same_tree(x, end) && is_row_end(table, y, at, width, count),
+        None => false,
+    }
+}

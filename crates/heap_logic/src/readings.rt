@@ -4,7 +4,7 @@ ghost use Rattle.term_logic.specs.Table.{tree_at};
 ghost use Rattle.term_logic.specs.Extends.{Extends};
 ghost use Rattle.outline_rules.specs.HeapMoves.{address_of, with_address, extent_of, with_extent, forgotten};
 ghost use Rattle.heap_logic.specs.Faults.{refusal_of};
-ghost use Rattle.heap_logic.specs.Heaps.{chunk_of, ChunkWithin, HeapWithin};
+ghost use Rattle.heap_logic.specs.Heaps.{chunk_of, ChunkWithin, HasWidth, HeapWithin};
 ghost use Rattle.heap_logic.specs.words.Effects.{bare, effect_of, ChangeWithin};
 ghost use Rattle.heap_logic.specs.words.Plans.{readdr_plan, reval_plan, relen_plan};
 
@@ -52,6 +52,7 @@ fn with_address(
     requires address { address < length table.now }
     ensures chunk { IfOk result (λ c. chunk_of table.now c ≡ with_address (tree_at table.now address) (chunk_of table.now chunk.now)) }
     ensures within { IfOk result (λ c. ChunkWithin (length table.now) c) }
+    ensures width { HasWidth chunk.now → IfOk result (λ c. HasWidth c) }
 {
     let _ = table;
     match chunk {
@@ -116,6 +117,7 @@ fn with_extent(
     requires extent { extent < length table.now }
     ensures chunk { IfOk result (λ c. chunk_of table.now c ≡ with_extent (tree_at table.now extent) (chunk_of table.now chunk.now)) }
     ensures within { IfOk result (λ c. ChunkWithin (length table.now) c) }
+    ensures width { HasWidth chunk.now → IfOk result (λ c. HasWidth c) }
 {
     let _ = table;
     match chunk {

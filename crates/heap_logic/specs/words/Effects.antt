@@ -14,7 +14,7 @@ use Rattle.outline_rules.specs.States.{State, blank, nodes_of}
 use Rattle.heap_logic.specs.declared.change.Change.{Change}
 use Rattle.heap_logic.specs.declared.heap.IdChunk.{IdChunk}
 use Rattle.heap_logic.specs.declared.heap.SymHeap.{SymHeap}
-use Rattle.heap_logic.specs.Heaps.{chunk_of, ChunkWithin}
+use Rattle.heap_logic.specs.Heaps.{chunk_of, ChunkWithin, HasWidth, HasWidths}
 
 -- What a move changes: how many variables are new, the facts that are added, what the chunk with a number becomes, the
 -- chunks that are appended, and the number of the chunk that goes.
@@ -59,11 +59,14 @@ effect_of ts c = record {
   gone = c.gone;
 }
 
--- all positions of a change are below n, and the chunks that it names are those of the heap
+-- all positions of a change are below n, its widths are those of cells where the heap's are, and the chunks that it names
+-- are those of the heap
 pub record ChangeWithin (n : ℕ) (h : SymHeap) (c : Change) : Type 0 where
   pub facts : All (λ f. formula_bound f ≤ n) c.facts
   pub becomes : ChunkWithin n c.becomes
   pub more : All (λ m. ChunkWithin n m) c.more
+  pub width : HasWidths h → HasWidth c.becomes
+  pub widths : HasWidths h → All HasWidth c.more
   pub place : c.chunk < length h.chunks
   pub gone : IfSome c.gone (λ d. (d < length h.chunks) × (d ≡ c.chunk → ⊥))
 

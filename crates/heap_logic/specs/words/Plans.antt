@@ -99,6 +99,18 @@ halve_limits h t k =
     within limit.Nodes 4096 (formula_nodes (formula.Eq t (joined_value h (term.Var k) (term.Var (k + 1)))))
     >> within limit.Variables 1000000 (k + 2)
 
+-- the value of two cells one after another, within the limit
+abbrev pub joined_made : (width : ℕ) → (first second : Term) → Ruling Term
+joined_made w u v = made (term.Mul (number (256 ^ w)) v) >>= λ t. made (term.Add u t)
+
+-- the terms of two new variables, and of the value that they join to
+abbrev pub half_terms : (half vars : ℕ) → Ruling (Term × Term × Term)
+half_terms h k = Ok (term.Var k, term.Var (k + 1), joined_value h (term.Var k) (term.Var (k + 1)))
+
+-- the same, with the facts of the halves of a value that they are
+abbrev pub halves_made : (half : ℕ) → (value : Term) → (vars : ℕ) → Ruling (Term × Term × List Formula)
+halves_made h t k = Ok (term.Var k, term.Var (k + 1), half_facts h t (term.Var k) (term.Var (k + 1)))
+
 abbrev pub halve_plan : ℕ → State → Ruling Effect
 halve_plan c s =
     halve_wanted c s >>= λ p.
@@ -114,10 +126,6 @@ unite_wanted c d f s =
     wanted reason.Chunk (not (c == d) && ((x.0 == 1 || (x.0 == 2 || x.0 == 4)) && y.0 == x.0))
     >> fact_wanted s f (formula.Eq y.1 (term.Add x.1 (number x.0)))
     >> Ok (x.0, x.1, x.2, y.2)
-
--- the value of two cells one after another, within the limit
-abbrev pub joined_made : (width : ℕ) → (first second : Term) → Ruling Term
-joined_made w u v = made (term.Mul (number (256 ^ w)) v) >>= λ t. made (term.Add u t)
 
 abbrev pub unite_plan : (c d : ℕ) → (f : ℕ) → State → Ruling Effect
 unite_plan c d f s =

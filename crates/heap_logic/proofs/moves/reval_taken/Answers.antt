@@ -1,0 +1,16 @@
+use Rattle.std.proofs.Common.{subst}
+use Rattle.wasm_values.specs.Answers.{Gives}
+use Rattle.heap_logic.specs.Faults.{refusal_of}
+use Rattle.heap_logic.specs.words.Effects.{bare, effect_of}
+use Rattle.heap_logic.specs.words.Plans.{reval_plan}
+use Rattle.heap_logic.proofs.Binds.{met-then}
+use Rattle.heap_logic.proofs.Growing.{bare-kept}
+use Rattle.heap_logic.proofs.moves.reval_taken.Goals as goal
+
+pub returns-clause-planned : goal.returns-clause-planned
+returns-clause-planned c =
+    let known = c.in_ok-term.ensures in
+    subst (λ r. Gives refusal_of (effect_of c.taken.new.table) c.reval.result r)
+    (met-then _ _ (λ v s. reval_plan c.args.c v c.args.f s) (bare c.taken.new.table c.args.heap.now) (bare c.args.table.now c.args.heap.now) known.taken
+    (bare-kept c.args.table.now c.taken.new.table known.kept c.args.heap.now c.requires.heap))
+    c.reval.ensures.planned
