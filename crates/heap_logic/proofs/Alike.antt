@@ -2,7 +2,7 @@
 use Rattle.std.proofs.Common.{◌≡◌, ℕ, sym, ap, ◌∙◌}
 use Rattle.std.specs.Prelude.{unwrap_or}
 use Rattle.term_trees.specs.declared.term.Place.{Place}
-use Rattle.term_trees.specs.declared.term.Term.{Term, roll-Term, map-Term, fold-roll-Term}
+use Rattle.term_trees.specs.declared.term.Term.{Term, map-Term, fold-roll-Term}
 use Rattle.term_trees.specs.declared.term.Term.TheOpen.{Term-F, Num, Var, Own, At, Add, Sub, Mul, One, Two, Low, Sext, Sgn}
 use Rattle.term_trees.specs.declared.term.Term.TheVariants as term
 use Rattle.term_trees.specs.declared.term.Formula.{Formula, map-Formula, fold-roll-Formula}

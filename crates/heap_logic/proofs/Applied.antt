@@ -1,7 +1,6 @@
 -- A heap move over a table is its plan and the change within the limits, whatever terms are given.
-use Rattle.std.proofs.Common.{◌≡◌, ℕ, ◌+◌, ◌<◌, ◌≤◌, zero, suc, List, [], ◌∷◌, ◌++◌, length, map, reverse, take, Option, Some, None, Ok, Err, IfSome, refl, sym, ap, ◌∙◌, subst, arith}
+use Rattle.std.proofs.Common.{◌≡◌, ℕ, ◌<◌, ◌≤◌, suc, List, [], ◌∷◌, length, map, reverse, take, Option, Some, None, Ok, Err, IfSome, refl, sym, ap, ◌∙◌, subst, arith}
 use Rattle.std.specs.Prelude.{Result, slice_get, option_map, option_and_then, OnOk, OnErr, IfOk}
-use Rattle.std.specs.List.{All}
 use Rattle.std.proofs.Math.Seq.{take-append_seam}
 use Rattle.std.proofs.lemmas.List.Elements.{All-append}
 use Rattle.std.proofs.lemmas.Option.{slice_get-map}
@@ -27,7 +26,7 @@ use Rattle.heap_logic.specs.declared.change.Change.{Change}
 use Rattle.heap_logic.specs.Faults.{refusal_of}
 use Rattle.heap_logic.specs.Heaps.{seen, AreSlots, ChunkWithin, HasWidth, HasWidths, HeapWithin}
 use Rattle.heap_logic.specs.words.Commits.{changed, state_limits}
-use Rattle.heap_logic.specs.words.Effects.{Effect, after, bare, effect_of, ChangeWithin}
+use Rattle.heap_logic.specs.words.Effects.{after, bare, effect_of, ChangeWithin}
 use Rattle.heap_logic.specs.words.Leaves.{slot_leaves}
 use Rattle.heap_logic.specs.words.Planned.{planned}
 use Rattle.heap_logic.proofs.Committed.{seen-after, all-after}

@@ -1,6 +1,6 @@
 -- What a change comes to: the chunks, how many there are, and the nodes.
-use Rattle.std.proofs.Common.{◌≡◌, ℕ, ◌+◌, ◌-◌, ◌<◌, ◌≤◌, zero, suc, List, [], ◌∷◌, ◌++◌, length, map, get_or, set, take, drop, Option, Some, None, refl, sym, ap, ◌∙◌, arith, length-append, sum_by, IfSome, ⊎_elim, min}
-use Rattle.std.specs.Prelude.{slice_set, slice_get, remove, nat_le, ◌⊎◌}
+use Rattle.std.proofs.Common.{◌≡◌, ℕ, ◌+◌, ◌-◌, ◌<◌, ◌≤◌, zero, suc, List, [], ◌∷◌, ◌++◌, length, map, get_or, take, drop, Option, Some, None, refl, sym, ap, ◌∙◌, arith, length-append, sum_by, IfSome, ⊎_elim, min}
+use Rattle.std.specs.Prelude.{slice_set, remove, nat_le, ◌⊎◌}
 use Rattle.std.specs.List.{All}
 use Rattle.std.specs.Option.{option_map_or}
 use Rattle.std.proofs.lemmas.Bool.{cases_order}
@@ -15,7 +15,7 @@ use Rattle.term_logic.specs.Formulas.{formula_of}
 use Rattle.notes.specs.declared.chunk.Chunk.{Chunk}
 use Rattle.outline_rules.specs.Refusals.{limited, ◌>>◌}
 use Rattle.outline_rules.specs.Chunks.{chunk_nodes}
-use Rattle.outline_rules.specs.States.{State, nodes_of, slot_terms}
+use Rattle.outline_rules.specs.States.{State, nodes_of}
 use Rattle.heap_logic.specs.declared.heap.IdChunk.{IdChunk}
 use Rattle.heap_logic.specs.declared.heap.SymHeap.{SymHeap}
 use Rattle.heap_logic.specs.declared.change.Change.{Change}
@@ -95,9 +95,14 @@ two-at cs k d x hk hd apart = by_order (cases_order d k)
 
     by_order : (d ≡ k) ⊎ ((d < k) ⊎ (k < d)) → chunk_nodes (get_or cs k x) + chunk_nodes (get_or cs d x) ≤ sum_by chunk_nodes cs
     by_order = ⊎_elim (λ e. absurd (apart e)) (⊎_elim
-      (λ low. omega (arith, less, ap chunk_nodes (get_or-remove_below cs k x d low hk), get_or-le-sum_by chunk_nodes (remove cs k) d x (omega (arith, low, hk, short))))
-      (λ high. omega (arith, less, ap chunk_nodes (get_or-remove_above cs k x (d - 1) (omega (arith, high)) hk),
-        ap (λ n. chunk_nodes (get_or cs n x)) (the-next d k high), get_or-le-sum_by chunk_nodes (remove cs k) (d - 1) x (omega (arith, high, hd, short)))))
+        (λ low. omega (arith, less, ap chunk_nodes (get_or-remove_below cs k x d low hk), get_or-le-sum_by chunk_nodes (remove cs k) d x (omega (arith, low, hk, short))))
+        (λ high. omega (
+          arith,
+          less,
+          ap chunk_nodes (get_or-remove_above cs k x (d - 1) (omega (arith, high)) hk),
+          ap (λ n. chunk_nodes (get_or cs n x)) (the-next d k high),
+          get_or-le-sum_by chunk_nodes (remove cs k) (d - 1) x (omega (arith, high, hd, short)),
+        )))
 
 module _ (cs more : List Chunk) (k : ℕ) (b : Chunk) (h : k < length cs) where
   pub sum-after : (gone : Option ℕ) → IfSome gone (λ d. (d < length cs) × (d ≡ k → ⊥))

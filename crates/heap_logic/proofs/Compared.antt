@@ -1,6 +1,6 @@
 -- What facts and terms of a shape are, by their parts.
-use Rattle.std.proofs.Common.{◌≡◌, ℕ, ℤ, Bool, true, false, ◌&&◌, List, Option, Some, None, refl, sym, ap, ◌∙◌}
-use Rattle.std.specs.Prelude.{pos, option_map, option_and_then, unwrap_or}
+use Rattle.std.proofs.Common.{◌≡◌, ℤ, Bool, true, false, ◌&&◌, Option, Some, None, refl, sym, ap, ◌∙◌}
+use Rattle.std.specs.Prelude.{option_and_then, unwrap_or}
 use Rattle.std.specs.Ordering.{int_eq}
 use Rattle.term_trees.specs.declared.term.Place.{Place}
 use Rattle.term_trees.specs.declared.term.Place.TheVariants as place
@@ -13,7 +13,6 @@ use Rattle.term_trees.specs.declared.term.Formula.TheOpen as open_form
 use Rattle.term_trees.specs.declared.term.Formula.TheVariants as formula
 use Rattle.term_trees.specs.Views.{num_of, place_of, sum_of, product_of, eq_of, le_of, lt_of}
 use Rattle.term_trees.specs.Same.{passes, same_here, same, same_formula_here, same_formula}
-use Rattle.term_logic.specs.Table.{tree_at}
 use Rattle.heap_logic.specs.words.Shifts.{shift_leaves}
 use Rattle.heap_logic.proofs.Symmetric.{same-turned, term-turned}
 

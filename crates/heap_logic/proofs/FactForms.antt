@@ -1,6 +1,6 @@
 -- Facts over a table by their sides.
 use Rattle.std.proofs.Common.{◌≡◌, ℕ, ◌+◌, max, sym, ap, ◌∙◌}
-use Rattle.term_logic.specs.declared.formula.IdFormula.{IdFormula, fold-roll-IdFormula}
+use Rattle.term_logic.specs.declared.formula.IdFormula.{fold-roll-IdFormula}
 use Rattle.term_logic.specs.declared.formula.IdFormula.TheOpen as layer
 use Rattle.term_logic.specs.declared.formula.IdFormula.TheVariants as form
 use Rattle.term_logic.specs.Formulas.{bound_here, formula_bound}

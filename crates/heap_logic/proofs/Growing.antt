@@ -1,19 +1,16 @@
 -- What a heap and a change say stays while the table grows.
-use Rattle.std.proofs.Common.{◌≡◌, ℕ, ◌<◌, ◌≤◌, List, [], ◌∷◌, length, map, Option, Some, None, refl, sym, ap, ◌∙◌, arith}
+use Rattle.std.proofs.Common.{◌≡◌, ℕ, ◌≤◌, List, [], ◌∷◌, length, map, refl, ◌∙◌, arith}
 use Rattle.std.specs.List.{All}
 use Rattle.std.proofs.lemmas.List.Elements.{All-head, All-tail}
 use Rattle.term_trees.specs.declared.term.Term.{Term}
-use Rattle.term_logic.specs.Table.{tree_at}
-use Rattle.term_logic.specs.Formulas.{formula_bound, formula_of}
 use Rattle.term_logic.specs.Extends.{Extends}
 use Rattle.term_logic.proofs.Formulas.{extended}
 use Rattle.notes.specs.declared.chunk.Chunk.TheVariants as tree
 use Rattle.heap_logic.specs.declared.heap.IdChunk.{IdChunk}
 use Rattle.heap_logic.specs.declared.heap.IdChunk.TheVariants.{Cell, Region, Row}
 use Rattle.heap_logic.specs.declared.heap.SymHeap.{SymHeap}
-use Rattle.heap_logic.specs.declared.change.Change.{Change}
 use Rattle.heap_logic.specs.Heaps.{chunk_of, ChunkWithin, HeapWithin}
-use Rattle.heap_logic.specs.words.Effects.{bare, effect_of, ChangeWithin}
+use Rattle.heap_logic.specs.words.Effects.{bare}
 
 pub extends-same : (ts : List Term) → Extends ts ts
 extends-same ts = extended ts ts (omega arith) (λ i h. refl)

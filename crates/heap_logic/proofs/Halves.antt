@@ -1,6 +1,6 @@
 -- The nodes of the fact that joins two halves.
 use Rattle.std.proofs.Common.{◌≡◌, ℕ, ◌+◌, ◌^◌, sym, ap, ◌∙◌, arith}
-use Rattle.std.specs.Prelude.{pos, nat_le, Ok}
+use Rattle.std.specs.Prelude.{nat_le, Ok}
 use Rattle.term_trees.specs.declared.term.Term.{Term, fold-roll-Term}
 use Rattle.term_trees.specs.declared.term.Term.TheOpen as layer
 use Rattle.term_trees.specs.declared.term.Term.TheVariants as term

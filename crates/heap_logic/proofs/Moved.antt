@@ -1,5 +1,5 @@
 -- Each heap move is its plan, and then the change within the limits.
-use Rattle.std.proofs.Common.{◌≡◌, ℕ, ℤ, ◌+◌, ◌*◌, ◌^◌, ◌==◌, not, Bool, true, false, ◌&&◌, ◌||◌, List, [], ◌∷◌, ◌++◌, Option, Some, None, Ok, refl, sym, ap, ◌∙◌, map}
+use Rattle.std.proofs.Common.{◌≡◌, ℕ, ℤ, ◌+◌, ◌*◌, ◌^◌, ◌==◌, not, Bool, true, false, ◌&&◌, ◌||◌, List, [], ◌∷◌, ◌++◌, Some, Ok, refl, sym, ap, ◌∙◌}
 use Rattle.std.specs.Prelude.{nat_le, slice_set, remove, length, pos}
 use Rattle.std.specs.List.{list_all}
 use Rattle.std.proofs.lemmas.List.{append-nil}
@@ -8,7 +8,7 @@ use Rattle.wasm_values.specs.declared.limit.LimitWord.TheVariants as limit
 use Rattle.term_trees.specs.declared.term.Term.{Term, fold-roll-Term}
 use Rattle.term_trees.specs.declared.term.Term.TheOpen as layer
 use Rattle.term_trees.specs.declared.term.Term.TheVariants as term
-use Rattle.term_trees.specs.declared.term.Formula.{Formula, fold-roll-Formula}
+use Rattle.term_trees.specs.declared.term.Formula.{fold-roll-Formula}
 use Rattle.term_trees.specs.declared.term.Formula.TheOpen as form_layer
 use Rattle.term_trees.specs.declared.term.Formula.TheVariants as formula
 use Rattle.term_trees.specs.Terms.{nodes_here, node_count}
@@ -16,10 +16,10 @@ use Rattle.term_trees.specs.Formulas.{formula_nodes_here, formula_nodes}
 use Rattle.term_trees.specs.Views.{num_of}
 use Rattle.notes.specs.declared.reason.Reason.TheVariants as reason
 use Rattle.notes.specs.declared.chunk.Chunk.{Chunk}
-use Rattle.notes.specs.declared.chunk.Chunk.TheVariants.{Cell, Region, Row}
+use Rattle.notes.specs.declared.chunk.Chunk.TheVariants.{Cell, Region}
 use Rattle.outline_rules.specs.Refusals.{Ruling, limited, wanted, ◌>>=◌, ◌>>◌}
 use Rattle.outline_rules.specs.States.{State, number, fresh, nodes_of, settled, with_facts, with_chunk, with_more_chunks, without_chunk}
-use Rattle.outline_rules.specs.HeapMoves.{fact_wanted, chunk_at, region_at, cell_at, greatest_in, cell_range, forgotten, width_by, half_of, joined_value, half_facts, halved, address_of, with_address, extent_of, with_extent, merge, forget, view, halve, unite}
+use Rattle.outline_rules.specs.HeapMoves.{fact_wanted, chunk_at, region_at, cell_at, greatest_in, cell_range, forgotten, width_by, half_of, joined_value, address_of, with_address, extent_of, with_extent, merge, forget, view, halve, unite}
 use Rattle.heap_logic.specs.words.Effects.{Effect, after, fitting}
 use Rattle.heap_logic.specs.words.Making.{made}
 use Rattle.heap_logic.specs.words.Plans.{turned, split_wanted, split_plan, merge_wanted, merge_plan, forgotten_made, forget_plan, view_wanted, viewed, view_plan, halve_wanted, halves, halve_plan, unite_wanted, unite_plan, readdr_plan, reval_plan, relen_plan}

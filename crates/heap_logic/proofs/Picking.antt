@@ -45,12 +45,12 @@ pub pick-goes : (c : ℕ) (t : Term) (f g : ℕ) (s : State) (r : ℕ × Term ×
     → pick_plan c t f g s ≡ picked_at c r.0 r.1 r.3 t (p.0, p.2, p.3) (term.Add (term.At place.Index) p.1) (term.At place.Item) (fresh s) s.vars
 pick-goes c t f g s r p is cut =
     let last : (r : ℕ × Term × Term × Formula) (x i b n : Term) → Ruling Effect = λ r x i b n.
-        pick_limits r.3 t i (fresh s) s.vars >> Ok (picks c r.0 r.1 r.3 t x i b n (fresh s)) in
+    pick_limits r.3 t i (fresh s) s.vars >> Ok (picks c r.0 r.1 r.3 t x i b n (fresh s)) in
     ap (λ q. q >>= λ r.
-      address_made r.0 r.1 t >>= λ x.
-      made (term.Add t (number 1)) >>= λ i.
-      address_made r.0 r.1 i >>= λ b.
-      made (term.Sub r.2 i) >>= λ n. last r x i b n) is
+    address_made r.0 r.1 t >>= λ x.
+    made (term.Add t (number 1)) >>= λ i.
+    address_made r.0 r.1 i >>= λ b.
+    made (term.Sub r.2 i) >>= λ n. last r x i b n) is
     ∙ cut-bind (last r) (address_made r.0 r.1 t) (made (term.Add t (number 1))) (λ i. address_made r.0 r.1 i) (λ i. made (term.Sub r.2 i))
     ∙ ap (λ q. q >>= λ p. last r p.0 p.1 p.2 p.3) cut
     ∙ limits-then (pick_limits r.3 t p.1 (fresh s) s.vars) (pair (shifted r.3 p.1) (at_position r.3 t (fresh s))) (λ q. Ok (record {

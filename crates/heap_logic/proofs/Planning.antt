@@ -1,8 +1,8 @@
 -- A heap move is what is planned for it, and then the change within the limits.
-use Rattle.std.proofs.Common.{◌≡◌, refl, sym, ap, ◌∙◌}
+use Rattle.std.proofs.Common.{◌≡◌}
 use Rattle.notes.specs.declared.heap_move.HeapMove.{HeapMove}
 use Rattle.notes.specs.declared.heap_move.HeapMove.TheVariants.{Split, Merge, Forget, View, Halve, Unite, Readdr, Reval, Relen, Pick, Join, Enrow, Rows}
-use Rattle.outline_rules.specs.Refusals.{Ruling, ◌>>=◌}
+use Rattle.outline_rules.specs.Refusals.{◌>>=◌}
 use Rattle.outline_rules.specs.States.{State}
 use Rattle.outline_rules.specs.Leaves.{move_leaves, in_row, taken, taken_formula}
 use Rattle.outline_rules.specs.HeapMoves.{heap_moved}

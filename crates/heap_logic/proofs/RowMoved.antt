@@ -1,8 +1,7 @@
 -- Each move on rows is its plan, and then the change within the limits.
-use Rattle.std.proofs.Common.{◌≡◌, ℕ, ◌+◌, ◌*◌, ◌==◌, not, Bool, true, false, ◌&&◌, List, [], ◌∷◌, ◌++◌, Option, Some, None, Ok, refl, sym, ap, ◌∙◌, arith}
-use Rattle.std.specs.Prelude.{nat_le, slice_set}
+use Rattle.std.proofs.Common.{◌≡◌, ℕ, ◌+◌, ◌==◌, not, Bool, true, false, ◌&&◌, [], ◌∷◌, Some, Ok, refl, sym, ap, ◌∙◌, arith}
+use Rattle.std.specs.Prelude.{nat_le}
 use Rattle.std.proofs.lemmas.Bool.{leb-false, lt-leb}
-use Rattle.std.proofs.lemmas.List.{append-nil}
 use Rattle.wasm_values.specs.declared.limit.LimitWord.TheVariants as limit
 use Rattle.term_trees.specs.declared.term.Term.{Term}
 use Rattle.term_trees.specs.declared.term.Term.TheVariants as term
@@ -16,12 +15,12 @@ use Rattle.notes.specs.declared.reason.Reason.TheVariants as reason
 use Rattle.notes.specs.declared.chunk.Chunk.TheVariants.{Cell, Row}
 use Rattle.outline_rules.specs.Refusals.{Ruling, limited, wanted, ◌>>=◌, ◌>>◌}
 use Rattle.outline_rules.specs.Chunks.{shifted}
-use Rattle.outline_rules.specs.States.{State, number, fresh, settled, with_facts, with_chunk, with_more_chunks, without_chunk}
+use Rattle.outline_rules.specs.States.{State, number, fresh, settled, with_facts, with_chunk, with_more_chunks}
 use Rattle.outline_rules.specs.HeapMoves.{fact_wanted, region_at, cell_at, row_at, greatest_in, item_facts, picked, join}
-use Rattle.heap_logic.specs.words.Effects.{Effect, after, fitting}
+use Rattle.heap_logic.specs.words.Effects.{after, fitting}
 use Rattle.heap_logic.specs.words.Making.{made}
 use Rattle.heap_logic.specs.words.Plans.{turned}
-use Rattle.heap_logic.specs.words.RowPlans.{pick_wanted, address_made, pick_limits, picks, pick_plan, join_wanted, join_plan, enrow_plan, rows_plan}
+use Rattle.heap_logic.specs.words.RowPlans.{pick_wanted, pick_limits, picks, pick_plan, join_wanted, join_plan, enrow_plan, rows_plan}
 use Rattle.heap_logic.proofs.Binds.{bind_bind, through, past, one_made}
 use Rattle.heap_logic.proofs.Moved.{done, settled-is, variables-first, after-turned, after-gone, low-nodes, high-nodes, nodes-var}
 use Rattle.heap_logic.proofs.Takings.{made-part, nodes-add, nodes-mul}

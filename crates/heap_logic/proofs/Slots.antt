@@ -5,12 +5,11 @@ use Rattle.term_trees.specs.declared.term.Place.{Place}
 use Rattle.term_trees.specs.declared.term.Place.TheVariants.{Local, Stack, Global, Pages, Arg, Result, Index, Item}
 use Rattle.term_trees.specs.declared.term.Term.{Term}
 use Rattle.term_trees.specs.declared.term.Term.TheVariants as term
-use Rattle.term_trees.specs.Leaves.{Leaves}
-use Rattle.term_trees.specs.Scopes.{Scope, given}
+use Rattle.term_trees.specs.Scopes.{given}
 use Rattle.term_logic.specs.declared.leaves.LeafIds.{LeafIds}
 use Rattle.term_logic.specs.Table.{tree_at}
 use Rattle.term_logic.specs.Leaves.{place_id, leaves_of}
-use Rattle.outline_rules.specs.Leaves.{variable_below, in_row}
+use Rattle.outline_rules.specs.Leaves.{in_row}
 use Rattle.heap_logic.specs.declared.taking.RowScope.{RowScope}
 use Rattle.heap_logic.specs.declared.taking.SlotScope.{SlotScope}
 use Rattle.heap_logic.specs.Heaps.{AreSlots}

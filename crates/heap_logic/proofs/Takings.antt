@@ -1,5 +1,5 @@
 -- What taking a term or a formula comes to.
-use Rattle.std.proofs.Common.{◌≡◌, ℕ, ◌+◌, ◌≤◌, ◌<◌, Bool, true, false, List, refl, sym, ap, subst, ◌∙◌, arith}
+use Rattle.std.proofs.Common.{◌≡◌, ℕ, ◌+◌, ◌≤◌, ◌<◌, Bool, true, false, refl, sym, ap, subst, ◌∙◌, arith}
 use Rattle.std.specs.Prelude.{nat_le, Result, Ok, Err, min, pos, IfOk}
 use Rattle.std.proofs.lemmas.Bool.{lt-leb, leb-false, leb-true, le-leb}
 use Rattle.wasm_values.specs.declared.limit.LimitWord.TheVariants as limit
@@ -12,7 +12,7 @@ use Rattle.term_trees.specs.Terms.{nodes_here, node_count}
 use Rattle.term_trees.specs.Formulas.{formula_nodes}
 use Rattle.term_trees.specs.Leaves.{Leaves, replaced, replaced_formula}
 use Rattle.notes.specs.declared.reason.Reason.TheVariants as reason
-use Rattle.outline_rules.specs.Refusals.{Ruling, Refusal, wanted, limited, within, refused, PastLimit, ◌>>=◌, ◌>>◌}
+use Rattle.outline_rules.specs.Refusals.{Ruling, Refusal, wanted, limited, refused, PastLimit, ◌>>=◌, ◌>>◌}
 use Rattle.outline_rules.specs.States.{number}
 use Rattle.heap_logic.specs.words.Making.{made}
 use Rattle.heap_logic.specs.declared.fault.MoveFault.{MoveFault}

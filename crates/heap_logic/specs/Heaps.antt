@@ -1,13 +1,10 @@
 -- The state of trees that a heap over a table stands for, with the terms of its slots.
-use Rattle.std.specs.Prelude.{◌≡◌, ℕ, ◌<◌, ◌≤◌, List, [], map, reverse, Option, None, option_map, IsTrue}
+use Rattle.std.specs.Prelude.{◌≡◌, ℕ, ◌<◌, ◌≤◌, List, [], map, reverse, None, option_map, IsTrue}
 use Rattle.std.specs.List.{All}
-use Rattle.term_trees.specs.declared.term.Place.{Place}
 use Rattle.term_trees.specs.declared.term.Term.{Term}
-use Rattle.term_trees.specs.Leaves.{Leaves}
 use Rattle.term_logic.specs.declared.leaves.LeafIds.{LeafIds}
 use Rattle.term_logic.specs.Table.{tree_at}
 use Rattle.term_logic.specs.Formulas.{formula_bound, formula_of}
-use Rattle.term_logic.specs.Leaves.{place_id}
 use Rattle.notes.specs.WellFormed.{is_width}
 use Rattle.notes.specs.declared.chunk.Chunk.{Chunk}
 use Rattle.notes.specs.declared.chunk.Chunk.TheVariants as tree
@@ -15,7 +12,6 @@ use Rattle.heap_logic.specs.declared.heap.IdChunk.{IdChunk}
 use Rattle.heap_logic.specs.declared.heap.IdChunk.TheVariants.{Cell, Region, Row}
 use Rattle.heap_logic.specs.declared.heap.SymHeap.{SymHeap}
 use Rattle.outline_rules.specs.States.{State}
-use Rattle.outline_rules.specs.Leaves.{variable_below}
 
 -- The chunk that one over a table stands for.
 abbrev pub chunk_of : List Term → IdChunk → Chunk

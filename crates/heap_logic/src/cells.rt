@@ -189,10 +189,7 @@ fn unite_wanted(
         Reason::Chunk,
         !(c == d) && ((width == 1 || (width == 2 || width == 4)) && other == width),
     )?;
-    wanted(
-        Reason::Fact,
-        says_sum_with(table, heap, f, next, at, width),
-    )?;
+    wanted(Reason::Fact, says_sum_with(table, heap, f, next, at, width))?;
     Ok((width, at, first, second))
 }
 

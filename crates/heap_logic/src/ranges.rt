@@ -15,10 +15,7 @@ use term_logic::{IdFormula, TermId, TermTable};
 use wasm_values::{List, OutOfMemory};
 
 /// The least and the greatest value of a cell of a width.
-pub(crate) fn range_of(
-    table: &mut TermTable,
-    width: u32,
-) -> Result<(TermId, TermId), OutOfMemory>
+pub(crate) fn range_of(table: &mut TermTable, width: u32) -> Result<(TermId, TermId), OutOfMemory>
     requires { IsTrue (is_width width) }
     ensures least { IfOk result (λ p. tree_at table.new p.0 ≡ number 0) }
     ensures greatest { IfOk result (λ p. tree_at table.new p.1 ≡ number (greatest_in width)) }

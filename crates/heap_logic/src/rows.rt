@@ -266,13 +266,7 @@ fn fitting_formulas(
     ensures within { IfOk result (λ p. (formula_bound p.0 ≤ length table.new) × (formula_bound p.1 ≤ length table.new)) }
     ensures kept { Extends table.old table.new }
 {
-    pick_limits(
-        table,
-        heap,
-        each,
-        (cell.0, cell.1),
-        (behind.0, behind.1),
-    )?;
+    pick_limits(table, heap, each, (cell.0, cell.1), (behind.0, behind.1))?;
     let (rest, known) = two_formulas(table, each, cell, behind)?;
     Ok((rest, known))
 }
@@ -332,13 +326,7 @@ fn picked(
 {
     let width = row.width;
     let value = terms.0;
-    let (behind, item) = fitting_formulas(
-        table,
-        heap,
-        row.each,
-        (t, value),
-        (terms.1, terms.2),
-    )?;
+    let (behind, item) = fitting_formulas(table, heap, row.each, (t, value), (terms.1, terms.2))?;
     let facts = item_facts(alloc, table, width, value, item)?;
     let more = both(
         alloc,
@@ -435,7 +423,15 @@ fn join_wanted<'h>(
     )?;
     wanted(
         Reason::Fact,
-        says_row_end(table, heap, f, second.at, first.at, first.width, first.count),
+        says_row_end(
+            table,
+            heap,
+            f,
+            second.at,
+            first.at,
+            first.width,
+            first.count,
+        ),
     )?;
     Ok(JoinParts {
         width: first.width,

@@ -157,11 +157,7 @@ pub(crate) fn place(table: &mut TermTable, p: Place) -> Result<TermId, OutOfMemo
 
 /// The sum of two terms of few nodes.
 #[tactic(auto, using(term_logic::proofs::Trees::cell_trees))]
-pub(crate) fn small_sum(
-    table: &mut TermTable,
-    a: TermId,
-    b: TermId,
-) -> Result<TermId, OutOfMemory>
+pub(crate) fn small_sum(table: &mut TermTable, a: TermId, b: TermId) -> Result<TermId, OutOfMemory>
     requires first { a < length table.old }
     requires second { b < length table.old }
     requires small { 1 + node_count (tree_at table.old a) + node_count (tree_at table.old b) ≤ 4096 }

@@ -143,12 +143,14 @@ pub(crate) fn row_at<'h>(
 {
     let _ = table;
     match heap.chunks.as_slice().get(chunk as usize) {
-        Some(IdChunk::Row {
-            width,
-            at,
-            count,
-            each,
-        }) => Ok(RowParts {
+        Some(
+            IdChunk::Row {
+                width,
+                at,
+                count,
+                each,
+            },
+        ) => Ok(RowParts {
             width: *width,
             at: *at,
             count: *count,

@@ -1,5 +1,5 @@
 -- What a heap move changes, and the state after it.
-use Rattle.std.specs.Prelude.{◌≡◌, ℕ, ◌+◌, ◌-◌, ◌<◌, ◌≤◌, List, [], ◌++◌, length, map, slice_get, slice_set, remove, Option, Some, None, option_map, IfSome, Ok, sum_by}
+use Rattle.std.specs.Prelude.{◌≡◌, ℕ, ◌+◌, ◌-◌, ◌<◌, ◌≤◌, List, ◌++◌, length, map, slice_get, slice_set, remove, Option, Some, None, IfSome, Ok, sum_by}
 use Rattle.std.specs.List.{All}
 use Rattle.std.specs.Option.{option_map_or}
 use Rattle.wasm_values.specs.declared.limit.LimitWord.TheVariants as limit

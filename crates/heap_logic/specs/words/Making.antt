@@ -1,5 +1,5 @@
 -- Terms that a move makes, within the limit.
-use Rattle.std.specs.Prelude.{ℕ, Ok}
+use Rattle.std.specs.Prelude.{Ok}
 use Rattle.wasm_values.specs.declared.limit.LimitWord.TheVariants as limit
 use Rattle.term_trees.specs.declared.term.Term.{Term}
 use Rattle.term_trees.specs.Terms.{node_count}

@@ -1,5 +1,4 @@
 -- What a heap move wants and changes, its terms taken first.
-use Rattle.std.specs.Prelude.{ℕ}
 use Rattle.term_trees.specs.Leaves.{Leaves}
 use Rattle.notes.specs.declared.heap_move.HeapMove.{HeapMove}
 use Rattle.notes.specs.declared.heap_move.HeapMove.TheVariants.{Split, Merge, Forget, View, Halve, Unite, Readdr, Reval, Relen, Pick, Join, Enrow, Rows}

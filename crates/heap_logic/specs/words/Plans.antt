@@ -1,5 +1,5 @@
 -- Heap moves as plans: what each wants, in its order, and what it then changes. The terms of a move are taken before.
-use Rattle.std.specs.Prelude.{ℕ, ◌+◌, ◌-◌, ◌*◌, ◌/◌, ◌^◌, ◌==◌, not, ◌&&◌, ◌||◌, List, [], ◌∷◌, ◌++◌, Option, Some, None, Ok}
+use Rattle.std.specs.Prelude.{ℕ, ◌+◌, ◌*◌, ◌^◌, ◌==◌, not, ◌&&◌, ◌||◌, List, [], ◌∷◌, Some, None, Ok}
 use Rattle.wasm_values.specs.declared.limit.LimitWord.TheVariants as limit
 use Rattle.term_trees.specs.declared.term.Term.{Term}
 use Rattle.term_trees.specs.declared.term.Term.TheVariants as term
@@ -7,15 +7,12 @@ use Rattle.term_trees.specs.declared.term.Formula.{Formula}
 use Rattle.term_trees.specs.declared.term.Formula.TheVariants as formula
 use Rattle.term_trees.specs.Formulas.{formula_nodes}
 use Rattle.term_trees.specs.Views.{num_of}
-use Rattle.term_trees.specs.Same.{same, same_formula}
-use Rattle.term_trees.specs.Rows.{at_position}
 use Rattle.notes.specs.declared.reason.Reason.TheVariants as reason
 use Rattle.notes.specs.declared.chunk.Chunk.{Chunk}
-use Rattle.notes.specs.declared.chunk.Chunk.TheVariants.{Cell, Region, Row}
+use Rattle.notes.specs.declared.chunk.Chunk.TheVariants.{Cell, Region}
 use Rattle.outline_rules.specs.Refusals.{Ruling, wanted, within, ◌>>=◌, ◌>>◌}
-use Rattle.outline_rules.specs.Chunks.{shifted}
 use Rattle.outline_rules.specs.States.{State, number, fresh}
-use Rattle.outline_rules.specs.HeapMoves.{fact_wanted, chunk_at, region_at, cell_at, row_at, cell_range, forgotten, width_by, half_of, joined_value, half_facts, address_of, with_address, extent_of, with_extent}
+use Rattle.outline_rules.specs.HeapMoves.{fact_wanted, chunk_at, region_at, cell_at, cell_range, forgotten, width_by, half_of, joined_value, half_facts, address_of, with_address, extent_of, with_extent}
 use Rattle.heap_logic.specs.words.Effects.{Effect}
 use Rattle.heap_logic.specs.words.Making.{made}
 

@@ -1,4 +1,4 @@
-use Rattle.std.proofs.Common.{◌≡◌, sym, subst, ◌∙◌}
+use Rattle.std.proofs.Common.{sym, subst, ◌∙◌}
 use Rattle.wasm_values.specs.Answers.{Gives}
 use Rattle.term_logic.specs.Table.{tree_at}
 use Rattle.term_logic.specs.Formulas.{formula_of}
