@@ -53,7 +53,7 @@ exported s number i name e there named =
       export_there = subst P f.2 place;
     })
 
-looked_up : (s : Store) (live : Live) (instance name : List ℕ) (e : Extern) → export_named_by s live instance name ≡ Some e → InPool s e
+pub looked_up : (s : Store) (live : Live) (instance name : List ℕ) (e : Extern) → export_named_by s live instance name ≡ Some e → InPool s e
 looked_up s live instance name e h =
     let n = inner (export_at s name) (live_number live instance) e h in
     let i = inner (λ (i : Instance). export_named i name) (slice_get s.instances n.0) e n.2 in

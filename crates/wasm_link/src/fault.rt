@@ -1,6 +1,6 @@
 use binary_grammar::DecodeFault;
 use wasm_validate::ValidFault;
-use wasm_values::Text;
+use wasm_values::{OutOfMemory, Text};
 
 /// Why a script isn't run to its end. The faults within are never want of memory.
 #[derive(Drop)]
@@ -16,4 +16,15 @@ pub enum LinkFault {
     /// A live instance lacks the export whose name stands at this place of the script.
     UnknownName(usize),
     OutOfMemory,
+}
+
+impl From<OutOfMemory> for LinkFault {
+    ghost use Rattle.std.specs.Prelude.{◌≡◌};
+    ghost use Rattle.wasm_link.specs.declared.fault.LinkFault.TheVariants as fault;
+
+    ghost from_gives = { λ _ e. e ≡ fault.OutOfMemory };
+
+    fn from(_error: OutOfMemory) -> LinkFault {
+        LinkFault::OutOfMemory
+    }
 }

@@ -1,8 +1,10 @@
 //! Runs scripts: modules are loaded, instances of them linked, and their functions called.
 #![tactic(auto)]
 
+mod actions;
 mod fault;
 pub mod laws;
+mod loading;
 mod look;
 mod run;
 mod steps;

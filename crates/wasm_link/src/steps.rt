@@ -1,12 +1,12 @@
 //! The steps of an action.
 
-ghost use Rattle.std.specs.Prelude.{◌≡◌, ◌<◌, ◌≤◌, None, Some, true, false, Ok, IfOk, OnOk, OnErr, IsTrue};
+ghost use Rattle.std.specs.Prelude.{◌≡◌, ◌<◌, None, Some, IfOk, OnErr, IsTrue};
 ghost use Rattle.std.specs.Prelude.{◌↔◌};
 ghost use Rattle.script_text.specs.declared.script.Action.{Action};
 ghost use Rattle.wasm_link.specs.Lines.{Doing};
 ghost use Rattle.wasm_link.specs.Stages.{Modules};
 ghost use Rattle.std.specs.Prelude.{List};
-ghost use Rattle.wasm_link.specs.words.{Ready, Reaches, Stepped, IsTaken, EndsAs, stage_of, watch_of, stop_at};
+ghost use Rattle.wasm_link.specs.words.{Ready, Kept, Reaches, IsTaken, EndsAs, stage_of, watch_of, stop_at};
 
 use crate::run::{Ending, Run};
 use std::alloc::Global;
@@ -35,6 +35,7 @@ fn take_step(alloc: Global, run: &mut Run) -> Result<bool, OutOfMemory>
     requires left { 0 < run.old.left }
     ensures taken { IfOk result (IsTaken run.old run.new) }
     ensures ready { Ready run.new }
+    ensures kept { Kept run.old run.new }
     ensures err { OnErr result (run.new ≡ run.old) }
 {
     match step(alloc, &mut run.config, &POLICY) {
@@ -56,6 +57,7 @@ pub(crate) fn run_on<O: Observer>(
 ) -> Result<Ending, OutOfMemory>
     requires { Ready run.old }
     ensures ready { Ready run.new }
+    ensures kept { Kept run.old run.new }
     ensures ends { IfOk result (EndsAs run.new) }
     ensures reaches { (ms : Modules) (doing : Doing) (rest : List Action) → Reaches O.eyes ms
         (stage_of run.old (Some doing) rest) (watch_of observer.old run.old None None)
