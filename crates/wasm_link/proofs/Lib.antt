@@ -5,3 +5,5 @@ pub mod Reaching
 pub mod Turning
 pub mod Endings
 pub mod Beginnings
+pub mod Spelled
+pub mod Runs

@@ -3,4 +3,5 @@ pub mod Loading
 pub mod Stages
 pub mod Watching
 pub mod Logs
+pub mod Answers
 pub mod words

@@ -1,6 +1,6 @@
 -- Words of private contracts and of proofs.
 pub mod Loads
-use Rattle.std.specs.Prelude.{◌≡◌, ℕ, suc, ◌+◌, ◌<◌, ◌++◌, codes, Bool, true, false, List, [], ◌∷◌, length, Option, Some, None, Result, Ok, Err, slice_get}
+use Rattle.std.specs.Prelude.{◌≡◌, ◌⊎◌, IsSome, ℕ, suc, ◌+◌, ◌<◌, ◌++◌, codes, Bool, true, false, List, [], ◌∷◌, length, Option, Some, None, Result, Ok, Err, slice_get}
 use Rattle.wasm_syntax.specs.declared.module.FuncType.{FuncType}
 use Rattle.wasm_store.specs.declared.store.FuncInst.TheVariants.{Host}
 use Rattle.wasm_store.specs.declared.store.Store.{Store}
@@ -17,6 +17,9 @@ use Rattle.script_text.specs.declared.script.Action.{Action}
 use Rattle.script_text.specs.declared.script.Action.TheVariants.{New, Call}
 use Rattle.script_text.specs.Names.{is_among}
 use Rattle.script_text.specs.Grammar.{made_by}
+use Rattle.wasm_link.specs.declared.fault.LinkFault.{LinkFault}
+use Rattle.wasm_link.specs.declared.fault.LinkFault.TheVariants.{UnknownName, OutOfMemory}
+use Rattle.wasm_link.specs.declared.log.SeenLog.{SeenLog}
 use Rattle.wasm_link.specs.declared.run.Run.{Run}
 use Rattle.wasm_link.specs.declared.run.Ending.{Ending}
 use Rattle.wasm_link.specs.declared.run.Ending.TheVariants.{Over, Stopped, Limit, Seen}
@@ -26,8 +29,8 @@ use Rattle.wasm_link.specs.declared.run.Turn.TheVariants as turn
 use Rattle.wasm_link.specs.declared.run.Found.{Found}
 use Rattle.wasm_link.specs.declared.run.Found.TheVariants.{Externs, Lacking}
 use Rattle.wasm_link.specs.Lines.{Doing, line, refusal_word}
-use Rattle.wasm_link.specs.Stages.{the_policy, Live, number_at, Modules, Stage, Event, IsPassed, Goes}
-use Rattle.wasm_link.specs.Watching.{Watch, watched}
+use Rattle.wasm_link.specs.Stages.{the_policy, Live, number_at, Modules, Stage, Event, IsPassed, Goes, IsOver}
+use Rattle.wasm_link.specs.Watching.{Watch, fresh, watched}
 
 abbrev pub live_of : Run → Live
 live_of r = record { names = r.names; numbers = r.numbers }
@@ -182,3 +185,31 @@ IsKnownAction modules made (Call instance export at args) = Unit {0}
 abbrev pub AreKnown : (modules made : List (List ℕ)) → List Action → Type 0
 AreKnown modules made [] = Unit {0}
 AreKnown modules made (a ∷ more) = IsKnownAction modules made a × AreKnown modules (made ++ made_by a) more
+
+-- What a run that has come so far answers.
+abbrev pub EndAnswers : Run → Turn → Result SeenLog LinkFault → Type 0
+EndAnswers r turn.Next (Ok seen) = (seen.log.text ≡ r.text.items) × (seen.steps ≡ r.steps) × (seen.stopped ≡ None)
+EndAnswers r turn.Ended (Ok seen) = (seen.log.text ≡ r.text.items) × (seen.steps ≡ r.steps) × (seen.stopped ≡ None)
+EndAnswers r (turn.Seen n) (Ok seen) = (seen.log.text ≡ r.text.items) × (seen.steps ≡ r.steps) × (seen.stopped ≡ Some n)
+EndAnswers r (turn.Lacks at) (Ok seen) = ⊥
+EndAnswers r (turn.Lacks at) (Err fault) = fault ≡ UnknownName at
+EndAnswers r _ (Err fault) = ⊥
+
+-- The stage before the first of these actions.
+abbrev pub stage_before : (steps : ℕ) → List Action → Stage
+stage_before steps actions = record { config = started; left = steps; live = record { names = []; numbers = [] }; doing = None; todo = actions }
+
+-- What was noted and written goes on to the end of a script, or to where the observer stopped.
+pub record Ends {O : Type 0} (eyes : Eyes O) (ms : Modules) (s : Stage) (w v : Watch O) : Type 0 where
+  pub stage : Stage
+  pub reaches : Reaches eyes ms s w stage v
+  pub whole : IsSome v.stopped ⊎ IsOver stage
+
+-- What a script whose modules are loaded answers.
+abbrev pub LoadedAnswers : {O : Type 0} → Eyes O → Modules → (steps : ℕ) → List Action → (notes after : O) → Result SeenLog LinkFault → Type 0
+LoadedAnswers eyes ms steps actions notes after (Ok seen) =
+    Ends eyes ms (stage_before steps actions) (fresh notes) (record { notes = after; text = seen.log.text; steps = seen.steps; stopped = seen.stopped; lacking = None })
+LoadedAnswers {O} eyes ms steps actions notes after (Err (UnknownName at)) =
+    (w : Watch O) × Ends eyes ms (stage_before steps actions) (fresh notes) w × (w.notes ≡ after) × (w.lacking ≡ Some at)
+LoadedAnswers eyes ms steps actions notes after (Err OutOfMemory) = LeftAt eyes ms (stage_before steps actions) (fresh notes) after
+LoadedAnswers eyes ms steps actions notes after (Err _) = ⊥
