@@ -129,7 +129,7 @@ pub goes_on : (told : Option Files) (faulted : Type 0) (loads : List Load) (befo
     Continues told loads before.names before.modules (load ∷ rest) → MoreOf told faulted load before after (Ok tt) → Continues told loads after.names after.modules rest
 goes_on told faulted loads before after load rest c m =
     let named : after.names ++ modules_of rest ≡ modules_of loads =
-        ap (λ z. z ++ modules_of rest) m.2 ∙ append_assoc before.names (load.name ∷ []) (modules_of rest) ∙ c.named in
+    ap (λ z. z ++ modules_of rest) m.2 ∙ append_assoc before.names (load.name ∷ []) (modules_of rest) ∙ c.named in
     let N : List (List ℕ) → Type 0 = λ z. AreNew z rest in
     record {
       loaded = loaded_on told m.1 c.loaded;
@@ -141,11 +141,13 @@ goes_on told faulted loads before after load rest c m =
   where
     moved : (more : List Module) → before.modules ++ (m.0 ∷ more) ≡ after.modules ++ more
     moved more = sym (append_assoc before.modules (m.0 ∷ []) more) ∙ ap (λ z. z ++ more) (sym m.3)
+
     loaded_on : (told : Option Files) → IfSome told (λ files. IsLoaded files load m.0) →
         IfSome told (λ files. (more : List Module) → AreLoaded files (load ∷ rest) more → AreLoaded files loads (before.modules ++ more)) →
         IfSome told (λ files. (more : List Module) → AreLoaded files rest more → AreLoaded files loads (after.modules ++ more))
     loaded_on None is h = tt
     loaded_on (Some files) is h = λ more are. subst (AreLoaded files loads) (moved more) (h (m.0 ∷ more) (is, are))
+
     refused_on : (told : Option Files) → IfSome told (λ files. IsLoaded files load m.0) →
         IfSome told (λ files. (fault : LinkFault) → IsFirstRefused files (load ∷ rest) fault → IsFirstRefused files loads fault) →
         IfSome told (λ files. (fault : LinkFault) → IsFirstRefused files rest fault → IsFirstRefused files loads fault)

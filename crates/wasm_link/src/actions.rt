@@ -305,12 +305,7 @@ fn call<O: Observer>(
 }
 
 // Says that the instance of a call isn't live.
-fn miss(
-    alloc: Global,
-    run: &mut Run,
-    instance: &str,
-    export: &Text,
-) -> Result<Turn, OutOfMemory>
+fn miss(alloc: Global, run: &mut Run, instance: &str, export: &Text) -> Result<Turn, OutOfMemory>
     ensures said { OnOk result (Said run.old run.new (line (call_head instance.now export.now) (codes "absent"))) }
     ensures next { IfOk result (λ turn. turn ≡ Turn.Next) }
 {
@@ -366,14 +361,29 @@ fn act<O: Observer>(
             from,
         } => {
             let module = module_of(loaded, module.as_str());
-            begin_new(alloc, run, instance.as_str(), module, from.as_slice(), observer)
+            begin_new(
+                alloc,
+                run,
+                instance.as_str(),
+                module,
+                from.as_slice(),
+                observer,
+            )
         }
         Action::Call {
             instance,
             export,
             at,
             args,
-        } => begin_call(alloc, run, instance.as_str(), export, *at, args.as_slice(), observer),
+        } => begin_call(
+            alloc,
+            run,
+            instance.as_str(),
+            export,
+            *at,
+            args.as_slice(),
+            observer,
+        ),
     }
 }
 

@@ -11,6 +11,8 @@ mod look;
 mod run;
 mod running;
 mod steps;
+#[cfg(test)]
+mod tests;
 mod text;
 
 pub use fault::LinkFault;

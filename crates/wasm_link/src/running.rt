@@ -108,11 +108,7 @@ pub fn run_script_seen<S: Shelf, O: Observer>(
 }
 
 /// Runs a script, and answers its log.
-pub fn run_script<S: Shelf>(
-    alloc: Global,
-    shelf: &mut S,
-    script: &Script,
-) -> Result<Log, LinkFault>
+pub fn run_script<S: Shelf>(alloc: Global, shelf: &mut S, script: &Script) -> Result<Log, LinkFault>
     requires { IsSpelled script.now }
     ensures files { S.files shelf.new ≡ S.files shelf.old }
     ensures no_lower { S.faults shelf.old ≤ S.faults shelf.new }

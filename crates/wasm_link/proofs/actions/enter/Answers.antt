@@ -18,10 +18,11 @@ run_call-requires g c = invoked_ready c.args.run.now c.invoke.new.config c.args.
 
 pub returns-in-Stop : goal.returns-in-Stop
 returns-in-Stop g c = λ ms rest i x at head there.
-    let r = c.args.run.now in
-    (Calling i x,
-    reach_seen g.O.Observer.eyes ms (stage_of r None (Call i x at c.args.args.now.items ∷ rest)) _ (record r { config = c.invoke.new.config }) c.args.observer.now c.show.new.observer (Stop c.in-Stop.n)
-    (call_entered i x at c.args.args.now.items rest c.args.target c.invoke.new.config refl refl there c.in-Ok.ensures.answers refl refl) c.show.ensures.noted c.in-Stop.ensures.told)
+    let r = c.args.run.now in (
+      Calling i x,
+      reach_seen g.O.Observer.eyes ms (stage_of r None (Call i x at c.args.args.now.items ∷ rest)) _ (record r { config = c.invoke.new.config }) c.args.observer.now c.show.new.observer (Stop c.in-Stop.n)
+          (call_entered i x at c.args.args.now.items rest c.args.target c.invoke.new.config refl refl there c.in-Ok.ensures.answers refl refl) c.show.ensures.noted c.in-Stop.ensures.told,
+    )
 
 pub returns-in-GoOn : goal.returns-in-GoOn
 returns-in-GoOn g c = λ ms rest i x at head there.

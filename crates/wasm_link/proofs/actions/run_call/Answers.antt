@@ -26,9 +26,11 @@ returns-in-Ok-Limit g c = λ ms rest instance export head.
 pub returns-in-Ok-Seen : goal.returns-in-Ok-Seen
 returns-in-Ok-Seen g c = λ ms rest instance export head.
     let h = c.in-Ok-Seen.ensures in
-    let doing = Calling instance export in
-    (doing, seen_turn g.O.Observer.eyes ms _ _ rest c.args.run.now c.run_on.new.run c.run_on.new.observer c.in-Ok-Seen.field-0 h.ready h.kept h.ends
-    doing c.in-Ok-Seen.n c.in-Ok-Seen.field-0-is (h.reaches ms doing rest))
+    let doing = Calling instance export in (
+      doing,
+      seen_turn g.O.Observer.eyes ms _ _ rest c.args.run.now c.run_on.new.run c.run_on.new.observer c.in-Ok-Seen.field-0 h.ready h.kept h.ends
+          doing c.in-Ok-Seen.n c.in-Ok-Seen.field-0-is (h.reaches ms doing rest),
+    )
 
 pub returns-in-Err : goal.returns-in-Err
 returns-in-Err g c = λ ms rest instance export head.

@@ -11,17 +11,19 @@ returns-in-Ok-Stop g c = λ ms s rest next.
     let eyes = g.O.Observer.eyes in
     let n = c.in-Ok-Stop.n in
     let said : Stop n ≡ eyes.told_made c.args.observer.now c.args.instance.now c.args.number c.args.module.now =
-    let P : Sight → Type 0 = λ x. x ≡ eyes.told_made c.args.observer.now c.args.instance.now c.args.number c.args.module.now in subst P c.in-Ok-Stop.field-0-is c.in-Ok-Stop.ensures.told in
-    (Making c.args.instance.now c.args.number,
-    reach_made_stop eyes ms s _ c.args.run.now c.args.instance.now c.args.number c.args.module.now c.args.observer.now c.made.new.self n next c.in-Ok-Stop.ensures.noted said)
+    let P : Sight → Type 0 = λ x. x ≡ eyes.told_made c.args.observer.now c.args.instance.now c.args.number c.args.module.now in subst P c.in-Ok-Stop.field-0-is c.in-Ok-Stop.ensures.told in (
+      Making c.args.instance.now c.args.number,
+      reach_made_stop eyes ms s _ c.args.run.now c.args.instance.now c.args.number c.args.module.now c.args.observer.now c.made.new.self n next c.in-Ok-Stop.ensures.noted said,
+    )
 
 pub returns-in-Stop : goal.returns-in-Stop
 returns-in-Stop g c = λ ms s rest next.
     let eyes = g.O.Observer.eyes in
     let said : GoOn ≡ eyes.told_made c.args.observer.now c.args.instance.now c.args.number c.args.module.now =
-    let P : Sight → Type 0 = λ x. x ≡ eyes.told_made c.args.observer.now c.args.instance.now c.args.number c.args.module.now in subst P c.in-Ok-GoOn.field-0-is c.in-Ok-GoOn.ensures.told in
-    (Making c.args.instance.now c.args.number,
-    reach_made_seen eyes ms s _ c.args.run.now c.args.instance.now c.args.number c.args.module.now c.args.observer.now c.made.new.self c.show.new.observer (Stop c.in-Stop.n) next c.in-Ok-GoOn.ensures.noted said c.show.ensures.noted c.in-Stop.ensures.told)
+    let P : Sight → Type 0 = λ x. x ≡ eyes.told_made c.args.observer.now c.args.instance.now c.args.number c.args.module.now in subst P c.in-Ok-GoOn.field-0-is c.in-Ok-GoOn.ensures.told in (
+      Making c.args.instance.now c.args.number,
+      reach_made_seen eyes ms s _ c.args.run.now c.args.instance.now c.args.number c.args.module.now c.args.observer.now c.made.new.self c.show.new.observer (Stop c.in-Stop.n) next c.in-Ok-GoOn.ensures.noted said c.show.ensures.noted c.in-Stop.ensures.told,
+    )
 
 pub returns-in-GoOn : goal.returns-in-GoOn
 returns-in-GoOn g c = λ ms s rest next.
