@@ -1,11 +1,10 @@
 -- How an action begins.
-use Rattle.std.proofs.Common.{◌≡◌, ℕ, ◌<◌, true, false, List, [], ◌∷◌, ◌++◌, length, Option, Some, None, Result, Ok, Err, codes, refl, sym, ap, subst, ◌∙◌, arith, leb-true, IsTrue, ◌≤◌}
-use Rattle.std.specs.Prelude.{OnOk, IfOk, option_and_then, ◌&&◌}
+use Rattle.std.proofs.Common.{◌≡◌, ℕ, ◌<◌, true, false, List, [], ◌∷◌, ◌++◌, length, Option, Some, None, Result, Ok, Err, codes, refl, subst}
+use Rattle.std.specs.Prelude.{OnOk, IfOk}
 use Rattle.wasm_values.specs.declared.number.Val.{Val}
 use Rattle.wasm_syntax.specs.declared.module.Module.{Module}
 use Rattle.wasm_store.specs.declared.store.Extern.{Extern}
-use Rattle.wasm_store.specs.Configuration.{Configuration}
-use Rattle.wasm_sessions.specs.Instantiation.{IsAtRest, Instantiated, Invoked, allocated}
+use Rattle.wasm_sessions.specs.Instantiation.{IsAtRest}
 use Rattle.module_instances.specs.declared.faults.InstFault.{InstFault}
 use Rattle.module_instances.specs.declared.faults.InstFault.TheVariants as inst
 use Rattle.module_instances.specs.Answers.{IsRefusedFor}
@@ -18,7 +17,7 @@ use Rattle.wasm_link.specs.declared.run.Run.{Run}
 use Rattle.wasm_link.specs.declared.run.Turn.{Turn}
 use Rattle.wasm_link.specs.declared.run.Turn.TheVariants as turn
 use Rattle.wasm_link.specs.Lines.{line, call_head, refusal_word}
-use Rattle.wasm_link.specs.Stages.{the_policy, Live, live_number, export_at, export_named_by, are_live, externs_from, Modules, module_named, Stage, Says, Lacks, Next, unmade, passed, IsPassed, new_absent, new_lacks, new_refused, new_limited, call_absent, call_lacks, call_no_function, call_arguments}
+use Rattle.wasm_link.specs.Stages.{the_policy, live_number, export_named_by, are_live, externs_from, Modules, module_named, new_absent, new_refused, new_limited, call_absent, call_no_function, call_arguments}
 use Rattle.wasm_link.specs.words.{Ready, Said, Settled, RefusedSo, TurnAnswers, stage_of, watch_of, live_of}
 use Rattle.wasm_link.proofs.Turning.{left_here, ended_turn, next_turn, settled_turn}
 

@@ -1,9 +1,6 @@
 -- How an action that was begun ends.
-use Rattle.std.proofs.Common.{◌≡◌, ℕ, suc, ◌<◌, List, [], ◌∷◌, ◌++◌, length, Option, Some, None, Result, Ok, Err, codes, refl, sym, ap, subst, ◌∙◌}
+use Rattle.std.proofs.Common.{◌≡◌, ℕ, ◌<◌, List, [], ◌∷◌, ◌++◌, length, Some, None, Result, Ok, codes, refl, sym, subst}
 use Rattle.std.specs.Prelude.{OnOk, IfOk}
-use Rattle.wasm_store.specs.declared.config.Outcome.{Outcome}
-use Rattle.wasm_store.specs.declared.config.Outcome.TheVariants.{Running}
-use Rattle.wasm_reduce.specs.Policies.{PassesFrames}
 use Rattle.wasm_instantiate.specs.Observers.{Eyes}
 use Rattle.script_text.specs.declared.script.Action.{Action}
 use Rattle.wasm_link.specs.declared.run.Run.{Run}
@@ -12,7 +9,7 @@ use Rattle.wasm_link.specs.declared.run.Ending.TheVariants.{Over, Stopped, Limit
 use Rattle.wasm_link.specs.declared.run.Turn.{Turn}
 use Rattle.wasm_link.specs.declared.run.Turn.TheVariants as turn
 use Rattle.wasm_link.specs.Lines.{Doing, Making, Calling, line, call_head, head_of, end_word}
-use Rattle.wasm_link.specs.Stages.{the_policy, Live, with_name, live_after, Modules, Stage, Says, Next, stopped, frames_passed, over}
+use Rattle.wasm_link.specs.Stages.{Live, Modules, Stage, Says, Next, stopped, frames_passed, over}
 use Rattle.wasm_link.specs.Watching.{Watch}
 use Rattle.wasm_link.specs.words.{Ready, Kept, Said, Settled, EndsAs, number_after, stop_at, Reaches, TurnAnswers, stage_of, watch_of, live_of}
 use Rattle.wasm_link.proofs.Turning.{ended_turn, next_turn, settled_turn, turn_after, live_settled, number_within, at_rest_so, suc_of}

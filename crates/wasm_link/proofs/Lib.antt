@@ -7,3 +7,7 @@ pub mod Endings
 pub mod Beginnings
 pub mod Spelled
 pub mod Runs
+pub mod Refusals
+pub mod Determined
+pub mod OneAnswer
+pub mod Exact

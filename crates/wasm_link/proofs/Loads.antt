@@ -1,8 +1,8 @@
 -- What loads come to.
-use Rattle.std.proofs.Common.{◌≡◌, ◌⊎◌, inl, inr, ℕ, suc, ◌+◌, ◌<◌, ◌≤◌, false, List, [], ◌∷◌, ◌++◌, drop, drop-cons, get_or, length, length-append, Option, Some, None, Result, Ok, Err, refl, sym, ap, subst, ◌∙◌, append_assoc, append-nil, arith, add-one}
+use Rattle.std.proofs.Common.{◌≡◌, inl, inr, ℕ, suc, ◌+◌, ◌<◌, ◌≤◌, List, [], ◌∷◌, ◌++◌, drop, drop-cons, get_or, length, length-append, Option, Some, None, Result, Ok, Err, refl, sym, ap, subst, ◌∙◌, append_assoc, append-nil, arith, add-one}
 use Rattle.std.proofs.Math.ListN.{drop_of_length-le}
 use Rattle.std.specs.Prelude.{IfSome, IsSome, IsSomeAnd}
-use Rattle.rw_edge.specs.Files.{contents_of, Lacks, IfContents, IsLonger}
+use Rattle.rw_edge.specs.Files.{contents_of, IfContents, IsLonger}
 use Rattle.rw_edge.specs.Count.{Faulted}
 use Rattle.wasm_syntax.specs.declared.module.Module.{Module}
 use Rattle.wasm_syntax.specs.declared.module.Marks.{Marks}
@@ -17,13 +17,12 @@ use Rattle.binary_grammar.specs.Plans.{Fault, Refused}
 use Rattle.binary_grammar.specs.Bounds.{the_bounds}
 use Rattle.body_check.specs.words.Answers.{Answers}
 use Rattle.script_text.specs.declared.script.Load.{Load}
-use Rattle.script_text.specs.Names.{is_among}
 use Rattle.script_text.specs.Grammar.{modules_of}
 use Rattle.wasm_link.specs.declared.fault.LinkFault.{LinkFault}
 use Rattle.wasm_link.specs.declared.fault.LinkFault.TheVariants.{Shelf, TooLong, Decode, Invalid, UnknownName, OutOfMemory}
 use Rattle.wasm_link.specs.declared.loading.Loaded.{Loaded}
-use Rattle.wasm_link.specs.Loading.{Files, IsRead, IsLoaded, IsNoMemory, IsRefusedLoad, AreLoaded, IsFirstRefused, module_limit}
-use Rattle.wasm_link.specs.words.Loads.{LongTold, DecodeTold, InvalidTold, IsAtPlace, FileOf, IsInvalidSo, CheckedOf, ModuleOf, LoadOf, MoreOf, LoadsOf, AreNew, Continues}
+use Rattle.wasm_link.specs.Loading.{Files, IsLoaded, IsNoMemory, AreLoaded, IsFirstRefused, module_limit}
+use Rattle.wasm_link.specs.words.Loads.{DecodeTold, InvalidTold, FileOf, IsInvalidSo, CheckedOf, ModuleOf, LoadOf, MoreOf, LoadsOf, AreNew, Continues}
 
 -- ---- one load
 

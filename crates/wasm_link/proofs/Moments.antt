@@ -1,5 +1,5 @@
 -- The configurations that a script goes through are the moments of a session.
-use Rattle.std.proofs.Common.{◌≡◌, ℕ, zero, suc, ◌+◌, Bool, true, false, List, [], ◌∷◌, ◌++◌, Option, Some, None, Result, Ok, Err, slice_get, option_map, refl, sym, ap, subst, ◌∙◌, add-one, All, inl}
+use Rattle.std.proofs.Common.{◌≡◌, ℕ, zero, suc, ◌+◌, Bool, List, [], ◌∷◌, ◌++◌, Option, Some, None, Result, Ok, slice_get, option_map, refl, sym, ap, subst, ◌∙◌, add-one, All, inl}
 use Rattle.std.specs.Prelude.{find, option_and_then, nat_eq}
 use Rattle.std.specs.Cmp.Lexicographic.{pointwise}
 use Rattle.std.specs.List.{position_or_len, flat_map}
@@ -11,15 +11,15 @@ use Rattle.wasm_store.specs.declared.store.Extern.{Extern}
 use Rattle.wasm_store.specs.declared.store.Instance.{Instance}
 use Rattle.wasm_store.specs.declared.store.Store.{Store}
 use Rattle.wasm_store.specs.Configuration.{Configuration, started}
-use Rattle.wasm_store.specs.Readers.{export_named, first_named_of}
+use Rattle.wasm_store.specs.Readers.{export_named}
 use Rattle.wasm_reduce.specs.Policies.{grows_next}
-use Rattle.wasm_sessions.specs.Pool.{InPool, IsExported}
+use Rattle.wasm_sessions.specs.Pool.{InPool}
 use Rattle.wasm_sessions.specs.Sessions.{Action, Follows, IsSession}
 use Rattle.wasm_sessions.specs.Sessions as session
 use Rattle.script_text.specs.declared.script.Load.{Load}
 use Rattle.script_text.specs.declared.script.Origin.{Origin}
 use Rattle.wasm_link.specs.Loading.{Files, AreLoaded}
-use Rattle.wasm_link.specs.Stages.{the_policy, Live, live_number, export_at, export_named_by, found_at, and_then, externs_from, Modules, module_named, Stage, Event, Says, Lacks, Makes, Enters, Steps, Next, Goes, new_absent, new_lacks, new_refused, new_limited, new_made, call_absent, call_lacks, call_no_function, call_arguments, call_entered, stopped, frames_passed, stepped, over}
+use Rattle.wasm_link.specs.Stages.{the_policy, Live, live_number, export_at, export_named_by, found_at, and_then, externs_from, Modules, Stage, Event, Says, Lacks, Makes, Enters, Steps, Next, Goes, new_absent, new_lacks, new_refused, new_limited, new_made, call_absent, call_lacks, call_no_function, call_arguments, call_entered, stopped, frames_passed, stepped, over}
 use Rattle.wasm_link.specs.Logs.{configurations_of}
 
 some_same : {A : Type 0} (x y : A) → Some x ≡ Some y → x ≡ y
@@ -30,7 +30,7 @@ ok_same x y e = cc
 
 -- ---- what is looked up is in the pool
 
-inner : {A B : Type 0} (f : A → Option B) (o : Option A) (y : B) → option_and_then f o ≡ Some y → (x : A) × (o ≡ Some x) × (f x ≡ Some y)
+pub inner : {A B : Type 0} (f : A → Option B) (o : Option A) (y : B) → option_and_then f o ≡ Some y → (x : A) × (o ≡ Some x) × (f x ≡ Some y)
 inner f None y e = absurd cc
 inner f (Some x) y e = (x, refl, e)
 

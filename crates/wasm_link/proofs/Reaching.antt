@@ -1,15 +1,12 @@
 -- Stages that are reached.
-use Rattle.std.proofs.Common.{◌≡◌, ℕ, suc, ◌+◌, Bool, true, false, List, [], ◌∷◌, ◌++◌, Option, Some, None, refl, sym, ap, subst, ◌∙◌}
+use Rattle.std.proofs.Common.{◌≡◌, ◌+◌, Bool, true, false, List, [], ◌∷◌, ◌++◌, Some, None, refl, sym, ap, subst, ◌∙◌}
 use Rattle.wasm_store.specs.declared.config.Outcome.TheVariants.{Running}
-use Rattle.wasm_store.specs.Configuration.{Configuration}
-use Rattle.wasm_reduce.specs.Policies.{PassesFrames}
 use Rattle.wasm_instantiate.specs.declared.sight.Sight.{Sight}
-use Rattle.wasm_instantiate.specs.declared.sight.Sight.TheVariants.{GoOn, Stop}
 use Rattle.wasm_instantiate.specs.Observers.{Eyes}
 use Rattle.script_text.specs.declared.script.Action.{Action}
 use Rattle.wasm_link.specs.declared.run.Run.{Run}
 use Rattle.wasm_link.specs.Lines.{Doing}
-use Rattle.wasm_link.specs.Stages.{the_policy, Modules, Stage, Event, Steps, Next, Goes, stepped}
+use Rattle.wasm_link.specs.Stages.{Modules, Stage, Event, Steps, Next, Goes, stepped}
 use Rattle.wasm_link.specs.Watching.{Watch, heard, heard_unless, watched, stop_of}
 use Rattle.wasm_link.specs.words.{Reaches, Stepped, IsTaken, stage_of, watch_of}
 

@@ -1,7 +1,7 @@
 -- What a run keeps over a step.
-use Rattle.std.proofs.Common.{◌⊎◌, inl, inr, zero, ◌≤◌, [], ◌∷◌, ◌++◌, map, Option, None, arith, length-append, ◌≡◌, ℕ, suc, ◌+◌, ◌<◌, List, Some, length, slice_get, refl, sym, ap, subst, ◌∙◌}
+use Rattle.std.proofs.Common.{◌⊎◌, inl, inr, zero, [], ◌∷◌, ◌++◌, map, Option, None, arith, length-append, ◌≡◌, ℕ, suc, ◌+◌, ◌<◌, List, Some, length, slice_get, refl, sym, ap, subst, ◌∙◌}
 use Rattle.wasm_store.specs.declared.store.FuncInst.{FuncInst}
-use Rattle.wasm_store.specs.declared.store.FuncInst.TheVariants.{Code, Host}
+use Rattle.wasm_store.specs.declared.store.FuncInst.TheVariants.{Host}
 use Rattle.wasm_store.specs.declared.store.Instance.{Instance}
 use Rattle.wasm_store.specs.declared.store.Store.{Store}
 use Rattle.wasm_store.specs.declared.store.Extern.{Extern}

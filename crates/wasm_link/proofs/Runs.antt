@@ -1,6 +1,5 @@
 -- What a run of a script answers.
-use Rattle.std.proofs.Common.{◌≡◌, inl, inr, ℕ, List, [], ◌∷◌, Option, Some, None, is_some, Result, Ok, Err, refl, sym, ap, subst, ◌∙◌}
-use Rattle.std.specs.Prelude.{IfSome}
+use Rattle.std.proofs.Common.{◌≡◌, inl, inr, ℕ, List, [], Option, Some, None, is_some, Result, Ok, Err, refl, sym, ap, subst, ◌∙◌}
 use Rattle.wasm_instantiate.specs.Observers.{Eyes}
 use Rattle.script_text.specs.declared.script.Action.{Action}
 use Rattle.script_text.specs.declared.script.Script.{Script}
@@ -14,7 +13,7 @@ use Rattle.wasm_link.specs.declared.run.Turn.TheVariants as turn
 use Rattle.wasm_link.specs.Loading.{Files}
 use Rattle.wasm_link.specs.Stages.{Modules, Stage, first_stage}
 use Rattle.wasm_link.specs.Watching.{Watch, fresh}
-use Rattle.wasm_link.specs.Logs.{modules_in, Watches}
+use Rattle.wasm_link.specs.Logs.{modules_in}
 use Rattle.wasm_link.specs.Answers.{Observes, SeenAnswers}
 use Rattle.wasm_link.specs.words.{IsStarted, Reaches, LeftAt, AllTo, Ends, EndAnswers, LoadedAnswers, stage_of, watch_of, stage_before}
 use Rattle.wasm_link.specs.words.Loads.{LoadsOf, modules_loaded}

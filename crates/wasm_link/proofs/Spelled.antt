@@ -1,6 +1,6 @@
 -- What is known of a script that some text spells.
-use Rattle.std.proofs.Common.{◌≡◌, ℕ, ◌≤◌, true, false, List, [], ◌∷◌, ◌++◌, map, Option, Some, None, refl, sym, ap, subst, ◌∙◌, append-nil, append_assoc}
-use Rattle.std.specs.Prelude.{codes, pos}
+use Rattle.std.proofs.Common.{◌≡◌, ℕ, ◌≤◌, false, List, [], ◌∷◌, ◌++◌, Option, Some, None, sym, ap, subst, ◌∙◌, append-nil, append_assoc}
+use Rattle.std.specs.Prelude.{codes}
 use Rattle.std.proofs.lemmas.List.{map-append}
 use Rattle.std.proofs.lemmas.Grind.{flat_map-append}
 use Rattle.sexp_text.specs.declared.sexp.Sexp.{Sexp}
@@ -10,7 +10,7 @@ use Rattle.script_text.specs.declared.script.Action.TheVariants.{New, Call}
 use Rattle.script_text.specs.declared.script.Script.{Script}
 use Rattle.script_text.specs.Names.{is_among}
 use Rattle.script_text.specs.Parts.{parts_of}
-use Rattle.script_text.specs.Grammar.{Row, End, Then, Each, Listed, IsList, IsWord, IsString, IsNumber, IsKnown, IsNew, modules_of, made_by, instances_of, IsOrigin, IsLoad, IsAction, AreActions, AreLoads, IsScript}
+use Rattle.script_text.specs.Grammar.{Row, End, Then, Each, Listed, IsList, IsWord, IsString, IsNumber, IsKnown, IsNew, modules_of, made_by, instances_of, IsOrigin, IsLoad, IsAction, AreActions, AreLoads}
 use Rattle.script_text.specs.Spelling.{ScriptSpells}
 use Rattle.wasm_link.specs.Answers.{IsSpelled}
 use Rattle.wasm_link.specs.words.{IsKnownAction, AreKnown}

@@ -1,5 +1,5 @@
 -- What comes after an action.
-use Rattle.std.proofs.Common.{◌≡◌, ℕ, zero, suc, ◌+◌, ◌<◌, Bool, true, false, List, [], ◌∷◌, ◌++◌, length, Option, Some, None, Result, Ok, Err, refl, sym, ap, subst, ◌∙◌, arith}
+use Rattle.std.proofs.Common.{◌≡◌, ℕ, zero, suc, ◌<◌, List, [], ◌∷◌, ◌++◌, length, Option, Some, None, Result, Ok, Err, refl, sym, subst, ◌∙◌, arith}
 use Rattle.std.specs.Prelude.{OnOk, IfOk}
 use Rattle.wasm_syntax.specs.declared.module.Module.{Module}
 use Rattle.wasm_store.specs.declared.config.Outcome.{Outcome}
@@ -13,10 +13,10 @@ use Rattle.script_text.specs.declared.script.Action.{Action}
 use Rattle.wasm_link.specs.declared.run.Run.{Run}
 use Rattle.wasm_link.specs.declared.run.Turn.{Turn}
 use Rattle.wasm_link.specs.declared.run.Turn.TheVariants as turn
-use Rattle.wasm_link.specs.Lines.{Doing, Making, Calling}
-use Rattle.wasm_link.specs.Stages.{Live, with_name, live_after, Modules, Stage, Event, Says, Lacks, Makes, Enters, Steps, Next}
+use Rattle.wasm_link.specs.Lines.{Doing, Making}
+use Rattle.wasm_link.specs.Stages.{Live, with_name, live_after, Modules, Stage, Says, Lacks, Makes, Enters, Next}
 use Rattle.wasm_link.specs.Watching.{Watch, heard, told, seen, stop_of}
-use Rattle.wasm_link.specs.words.{Ready, Said, Settled, number_after, Reaches, LeftAt, GoesOn, TurnTo, TurnAnswers, AllTo, stage_of, watch_of, live_of}
+use Rattle.wasm_link.specs.words.{Ready, Said, Settled, number_after, Reaches, LeftAt, TurnTo, TurnAnswers, AllTo, stage_of, watch_of, live_of}
 use Rattle.wasm_link.proofs.Reaching.{here, reach_on, reach_one}
 use Rattle.wasm_link.proofs.Readying.{said_ready, settled_ready}
 

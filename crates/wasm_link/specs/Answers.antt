@@ -5,7 +5,7 @@ use Rattle.wasm_instantiate.specs.Observers.{Eyes}
 use Rattle.script_text.specs.declared.script.Script.{Script}
 use Rattle.script_text.specs.Spelling.{ScriptSpells}
 use Rattle.wasm_link.specs.declared.fault.LinkFault.{LinkFault}
-use Rattle.wasm_link.specs.declared.fault.LinkFault.TheVariants.{Shelf, TooLong, Decode, Invalid, UnknownName, OutOfMemory}
+use Rattle.wasm_link.specs.declared.fault.LinkFault.TheVariants.{Shelf, UnknownName, OutOfMemory}
 use Rattle.wasm_link.specs.declared.log.Log.{Log}
 use Rattle.wasm_link.specs.declared.log.SeenLog.{SeenLog}
 use Rattle.wasm_link.specs.Loading.{Files, AreLoaded, IsFirstRefused}
@@ -43,6 +43,14 @@ SeenAnswers {O} eyes told x notes after (Err (UnknownName at)) =
 SeenAnswers eyes told x notes after (Err OutOfMemory) = (after ≡ notes) ⊎ HasNoted eyes told x notes after
 SeenAnswers eyes told x notes after (Err Shelf) = after ≡ notes
 SeenAnswers eyes told x notes after (Err fault) = IfSome told (λ files. IsFirstRefused files x.loads fault) × (after ≡ notes)
+
+-- What a script comes to over these files: its log; the place of the first export that a live instance lacks; or the refusal of the
+-- first load that gives no module.
+abbrev pub ScriptAnswers : Files → Script → Result Log LinkFault → Type 0
+ScriptAnswers files x (Ok log) = ScriptLog files x log.text
+ScriptAnswers files x (Err (UnknownName at)) = ScriptLacks files x at
+ScriptAnswers files x (Err OutOfMemory) = ⊥
+ScriptAnswers files x (Err fault) = IsFirstRefused files x.loads fault
 
 -- A script was run over these files, or it was refused. A refusal of the shelf, and want of memory, are free here.
 abbrev pub RunAnswers : Files → Script → Result Log LinkFault → Type 0

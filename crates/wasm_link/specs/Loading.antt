@@ -8,13 +8,12 @@ use Rattle.binary_grammar.specs.declared.fault.DecodeFault.TheVariants as decode
 use Rattle.binary_grammar.specs.ModuleGrammar.{Spells, InLimits}
 use Rattle.binary_grammar.specs.Plans.{Fault}
 use Rattle.binary_grammar.specs.Bounds.{the_bounds}
-use Rattle.wasm_typing.specs.declared.fault.ValidFault.{ValidFault}
 use Rattle.wasm_typing.specs.declared.fault.ValidFault.TheVariants as valid
 use Rattle.wasm_typing.specs.Valid.{Valid}
 use Rattle.wasm_typing.specs.faults.Faults.{InvalidAt}
 use Rattle.script_text.specs.declared.script.Load.{Load}
 use Rattle.wasm_link.specs.declared.fault.LinkFault.{LinkFault}
-use Rattle.wasm_link.specs.declared.fault.LinkFault.TheVariants.{Shelf, TooLong, Decode, Invalid, UnknownName, OutOfMemory}
+use Rattle.wasm_link.specs.declared.fault.LinkFault.TheVariants.{Shelf, TooLong, Decode, Invalid}
 
 -- Files by name: each is its name and its contents.
 abbrev pub Files : Type 0

@@ -7,7 +7,7 @@ use Rattle.wasm_syntax.specs.declared.module.Module.{Module}
 use Rattle.wasm_store.specs.declared.store.Extern.{Extern}
 use Rattle.wasm_store.specs.declared.store.Store.{Store}
 use Rattle.wasm_store.specs.declared.config.Outcome.{Outcome}
-use Rattle.wasm_store.specs.declared.config.Outcome.TheVariants.{Running, Done, Trapped}
+use Rattle.wasm_store.specs.declared.config.Outcome.TheVariants.{Running, Done}
 use Rattle.wasm_store.specs.Configuration.{Configuration, started}
 use Rattle.wasm_store.specs.Readers.{export_named}
 use Rattle.wasm_reduce.specs.declared.policy.Policy.{Policy}
@@ -23,7 +23,6 @@ use Rattle.script_text.specs.declared.script.Action.{Action}
 use Rattle.script_text.specs.declared.script.Action.TheVariants.{New, Call}
 use Rattle.script_text.specs.declared.script.Script.{Script}
 use Rattle.script_text.specs.Names.{place_in}
-use Rattle.script_text.specs.Grammar.{modules_of}
 use Rattle.wasm_link.specs.Lines.{Doing, Making, Calling, new_head, call_head, head_of, line, end_word, refusal_word}
 
 -- At most 1,024 pages and 10,000 frames.

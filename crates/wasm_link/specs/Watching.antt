@@ -1,5 +1,5 @@
 -- What is written and noted while a script goes.
-use Rattle.std.specs.Prelude.{ℕ, ◌+◌, Bool, true, false, List, [], ◌∷◌, ◌++◌, Option, Some, None}
+use Rattle.std.specs.Prelude.{ℕ, ◌+◌, List, [], ◌∷◌, ◌++◌, Option, Some, None}
 use Rattle.wasm_store.specs.Configuration.{Configuration}
 use Rattle.wasm_instantiate.specs.declared.sight.Sight.{Sight}
 use Rattle.wasm_instantiate.specs.declared.sight.Sight.TheVariants.{GoOn, Stop}

@@ -1,9 +1,11 @@
 //! Scripts that are run.
 
-ghost use Rattle.std.specs.Prelude.{◌≡◌, ◌≤◌, ◌⊎◌, [], length, IsErrOf, IfSome, IsSomeAnd};
+ghost use Rattle.std.specs.Prelude.{◌≡◌, ◌≤◌, ◌⊎◌, [], length, Result, IsErrOf, IfSome, IsSomeAnd};
+ghost use Rattle.wasm_link.specs.declared.fault.LinkFault.{LinkFault as Fault};
+ghost use Rattle.wasm_link.specs.declared.log.Log.{Log as LogOf};
 ghost use Rattle.rw_edge.specs.Count.{Faulted};
 ghost use Rattle.wasm_link.specs.Loading.{IsFirstRefused};
-ghost use Rattle.wasm_link.specs.Answers.{IsSpelled, SeenAnswers, RunAnswers};
+ghost use Rattle.wasm_link.specs.Answers.{IsSpelled, SeenAnswers, RunAnswers, ScriptAnswers};
 ghost use Rattle.wasm_link.specs.words.{AreKnown, EndAnswers, LoadedAnswers};
 ghost use Rattle.wasm_link.specs.words.Loads.{modules_loaded};
 
@@ -107,6 +109,22 @@ pub fn run_script_seen<S: Shelf, O: Observer>(
     }
 }
 
+// Runs a script on which nobody looks.
+fn run_unseen<S: Shelf>(alloc: Global, shelf: &mut S, script: &Script) -> Result<Log, LinkFault>
+    requires { IsSpelled script.now }
+    ensures files { S.files shelf.new ≡ S.files shelf.old }
+    ensures no_lower { S.faults shelf.old ≤ S.faults shelf.new }
+    ensures answers { IfSome (S.files shelf.old) (λ files. RunAnswers files script.now result) }
+    ensures shelf { IsErrOf result LinkFault.Shelf → Faulted (S.faults shelf.old) (S.faults shelf.new)
+        ⊎ IsSomeAnd (S.files shelf.old) (λ files. IsFirstRefused files script.now.loads LinkFault.Shelf) }
+{
+    let mut observer = Blind::new();
+    match run_script_seen(alloc, shelf, script, &mut observer) {
+        Ok(seen) => Ok(log_of(seen)),
+        Err(fault) => Err(fault),
+    }
+}
+
 /// Runs a script, and answers its log.
 pub fn run_script<S: Shelf>(alloc: Global, shelf: &mut S, script: &Script) -> Result<Log, LinkFault>
     requires { IsSpelled script.now }
@@ -116,13 +134,13 @@ pub fn run_script<S: Shelf>(alloc: Global, shelf: &mut S, script: &Script) -> Re
     // The log is that of the script over the files that the shelf tells; or it is refused for the first reason.
     ensures answers { IfSome (S.files shelf.old) (λ files. RunAnswers files script.now result) }
 
+    // What the script comes to is answered, unless the shelf fails or memory is wanting.
+    ensures exact { IfSome (S.files shelf.old) (λ files. (said : Result LogOf Fault) → ScriptAnswers files script.now said
+        → (result ≡ said) ⊎ (IsErrOf result LinkFault.OutOfMemory ⊎ (IsErrOf result LinkFault.Shelf × Faulted (S.faults shelf.old) (S.faults shelf.new)))) }
+
     // The shelf failed, or lacks the file of the first load that is refused.
     ensures shelf { IsErrOf result LinkFault.Shelf → Faulted (S.faults shelf.old) (S.faults shelf.new)
         ⊎ IsSomeAnd (S.files shelf.old) (λ files. IsFirstRefused files script.now.loads LinkFault.Shelf) }
 {
-    let mut observer = Blind::new();
-    match run_script_seen(alloc, shelf, script, &mut observer) {
-        Ok(seen) => Ok(log_of(seen)),
-        Err(fault) => Err(fault),
-    }
+    run_unseen(alloc, shelf, script)
 }

@@ -1,4 +1,4 @@
-use Rattle.std.proofs.Common.{◌≡◌, ℕ, ◌+◌, List, [], ◌∷◌, ◌++◌, drop, None, Some, sym, subst}
+use Rattle.std.proofs.Common.{◌≡◌, ℕ, ◌+◌, List, ◌∷◌, ◌++◌, drop, None, sym, subst}
 use Rattle.script_text.specs.declared.script.Action.{Action}
 use Rattle.script_text.specs.Grammar.{made_by}
 use Rattle.wasm_link.specs.declared.run.Turn.{Turn}

@@ -1,8 +1,7 @@
-use Rattle.std.proofs.Common.{◌≡◌, Option, [], ◌∷◌, ℕ, None, Some, refl, sym, subst, ap, ◌∙◌}
+use Rattle.std.proofs.Common.{◌≡◌, [], ◌∷◌, None, Some, refl, sym, ap, ◌∙◌}
 use Rattle.std.specs.Prelude.{option_and_then}
-use Rattle.wasm_store.specs.declared.store.Extern.{Extern}
 use Rattle.script_text.specs.declared.script.Action.TheVariants.{Call}
-use Rattle.wasm_link.specs.Stages.{live_number, export_at, export_named_by, call_lacks}
+use Rattle.wasm_link.specs.Stages.{live_number, export_at, call_lacks}
 use Rattle.wasm_link.specs.words.{live_of, stage_of}
 use Rattle.wasm_link.proofs.Turning.{reach_lacks}
 use Rattle.wasm_link.proofs.Beginnings.{missed_turn}

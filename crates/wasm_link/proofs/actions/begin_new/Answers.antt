@@ -1,4 +1,4 @@
-use Rattle.std.proofs.Common.{◌≡◌, [], ◌∷◌, true, false, Ok, Err, None, refl, sym, subst, ◌∙◌}
+use Rattle.std.proofs.Common.{◌≡◌, [], ◌∷◌, true, None, refl, sym, subst, ◌∙◌}
 use Rattle.script_text.specs.declared.script.Action.TheVariants.{New}
 use Rattle.wasm_link.specs.declared.run.Found.{Found}
 use Rattle.wasm_link.specs.Stages.{are_live, externs_from, new_lacks}

@@ -1,4 +1,4 @@
-use Rattle.std.proofs.Common.{◌≡◌, ◌∷◌, None, Some, Ok, Err, IfOk, codes, refl, sym, subst}
+use Rattle.std.proofs.Common.{◌∷◌, None, Err, codes, refl, subst}
 use Rattle.std.specs.Prelude.{OnOk}
 use Rattle.wasm_store.specs.Configuration.{Configuration}
 use Rattle.wasm_instantiate.specs.declared.sight.Sight.TheVariants.{GoOn, Stop}

@@ -1,9 +1,9 @@
-use Rattle.std.proofs.Common.{◌≡◌, ℕ, ◌<◌, ◌∷◌, length, None, Some, IfOk, refl, sym, subst, arith}
+use Rattle.std.proofs.Common.{ℕ, ◌∷◌, None, IfOk, refl, sym, subst, arith}
 use Rattle.wasm_store.specs.Configuration.{Configuration}
 use Rattle.script_text.specs.declared.script.Action.TheVariants.{New}
 use Rattle.wasm_link.specs.Lines.{Making}
 use Rattle.wasm_link.specs.Stages.{Makes, Next, begun, new_made}
-use Rattle.wasm_link.specs.words.{RefusedSo, TurnAnswers, stage_of, watch_of}
+use Rattle.wasm_link.specs.words.{RefusedSo, stage_of}
 use Rattle.wasm_link.proofs.Readying.{made_ready, instances_made}
 use Rattle.wasm_link.proofs.Beginnings.{refused_turn}
 use Rattle.wasm_link.proofs.actions.make.Goals as goal

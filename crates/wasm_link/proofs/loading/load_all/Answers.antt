@@ -1,4 +1,4 @@
-use Rattle.std.proofs.Common.{◌≡◌, ◌∙◌, Option, List, drop, subst, arith, Ok, Err, ◌+◌}
+use Rattle.std.proofs.Common.{◌∙◌, Option, List, drop, subst, arith, Ok, Err, ◌+◌}
 use Rattle.rw_edge.specs.Count.{Faulted}
 use Rattle.script_text.specs.declared.script.Load.{Load}
 use Rattle.wasm_link.specs.Loading.{Files}

@@ -3,7 +3,6 @@ use Rattle.rw_edge.specs.Count.{Faulted}
 use Rattle.script_text.specs.declared.script.Load.{Load}
 use Rattle.script_text.specs.declared.script.Action.{Action}
 use Rattle.script_text.specs.Grammar.{modules_of}
-use Rattle.wasm_link.specs.Stages.{Modules}
 use Rattle.wasm_link.specs.words.{AreKnown, LoadedAnswers}
 use Rattle.wasm_link.specs.words.Loads.{AreNew, LoadsOf, modules_loaded}
 use Rattle.wasm_link.proofs.Spelled.{known_script}

@@ -1,5 +1,5 @@
 use Rattle.std.proofs.Common.{arith}
-use Rattle.wasm_link.proofs.Readying.{step_ready, step_kept, same_kept}
+use Rattle.wasm_link.proofs.Readying.{step_ready, step_kept}
 use Rattle.wasm_link.proofs.steps.take_step.Goals as goal
 
 pub returns-in-Ok-clause-ready : goal.returns-in-Ok-clause-ready
