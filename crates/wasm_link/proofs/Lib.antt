@@ -11,3 +11,5 @@ pub mod Refusals
 pub mod Determined
 pub mod OneAnswer
 pub mod Exact
+pub mod Going
+pub mod SomeAnswer

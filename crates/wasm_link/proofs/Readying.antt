@@ -109,7 +109,7 @@ segments_same : (i : Instance) (s : Store) (es : List Segment) → SameNames s (
 segments_same i s [] = record { funcs = refl; instances = refl }
 segments_same i s (e ∷ es) = let k = segments_same i (with_segment i s e) es in record { funcs = k.funcs; instances = k.instances }
 
-initialized_same : (i : Instance) (s : Store) (m : Module) → SameNames s (initialized s i m)
+pub initialized_same : (i : Instance) (s : Store) (m : Module) → SameNames s (initialized s i m)
 initialized_same i s m =
     let a = elems_same i s m.elems in
     let b = segments_same i (fold (with_elem i) s m.elems) m.segments in
@@ -119,27 +119,31 @@ store_started : (s : Store) (i : Instance) (start : Option ℕ) (d : Configurati
 store_started s i None d h = ap (λ (c : Configuration). c.store) h
 store_started s i (Some x) d h = ap (λ (c : Configuration). c.store) h.4
 
-module _ (r : Run) (d : Configuration) (m : Module) (externs : List Extern) (made : Instantiated r.config m externs d) where
-  names_made : SameNames (allocated r.config.store m externs) d.store
+module _ (c d : Configuration) (m : Module) (externs : List Extern) (made : Instantiated c m externs d) where
+  names_made : SameNames (allocated c.store m externs) d.store
   names_made =
-      let one = made_instance r.config.store m externs in
-      let same = initialized_same one (allocated r.config.store m externs) m in
-      let store = store_started (initialized (allocated r.config.store m externs) one m) one m.start d made.starts in
+      let one = made_instance c.store m externs in
+      let same = initialized_same one (allocated c.store m externs) m in
+      let store = store_started (initialized (allocated c.store m externs) one m) one m.start d made.starts in
       record { funcs = ap (λ (s : Store). s.funcs) store ∙ same.funcs; instances = ap (λ (s : Store). s.instances) store ∙ same.instances }
 
-  pub instances_made : length d.store.instances ≡ length r.config.store.instances + 1
-  instances_made = ap length names_made.instances ∙ length-append r.config.store.instances (made_instance r.config.store m externs ∷ [])
+  pub instances_made : length d.store.instances ≡ length c.store.instances + 1
+  instances_made = ap length names_made.instances ∙ length-append c.store.instances (made_instance c.store m externs ∷ [])
 
-  pub made_ready : Ready r → Typed d → Ready (record r { config = d })
-  made_ready ready typed =
-      let funcs = no_host_behind r.config.store.funcs (map (made_func m (length r.config.store.instances)) (enumerate_from 0 m.funcs)) ready.no_hosts (no_host_made m (length r.config.store.instances) (enumerate_from 0 m.funcs)) in
-      record {
-        typed = typed;
-        no_hosts = subst NoHost (sym names_made.funcs) funcs;
-        beside = ready.beside;
-        there = λ k n h. omega (arith, instances_made, ready.there k n h);
-        few = ready.few;
-      }
+  pub no_hosts_made : HasNoHosts c.store → HasNoHosts d.store
+  no_hosts_made none =
+      let made = map (made_func m (length c.store.instances)) (enumerate_from 0 m.funcs) in
+      subst NoHost (sym names_made.funcs) (no_host_behind c.store.funcs made none (no_host_made m (length c.store.instances) (enumerate_from 0 m.funcs)))
+
+pub made_ready : (r : Run) (d : Configuration) (m : Module) (externs : List Extern) → Instantiated r.config m externs d → Ready r → Typed d → Ready (record r { config = d })
+made_ready r d m externs made ready typed =
+    record {
+      typed = typed;
+      no_hosts = no_hosts_made r.config d m externs made ready.no_hosts;
+      beside = ready.beside;
+      there = λ k n h. omega (arith, instances_made r.config d m externs made, ready.there k n h);
+      few = ready.few;
+    }
 
 pub invoked_store : (c d : Configuration) (e : Extern) (values : List Val) → Invoked c e values d → d.store ≡ c.store
 invoked_store c d (Func a) values h = ap (λ (x : Configuration). x.store) h.6

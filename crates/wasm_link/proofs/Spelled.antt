@@ -1,8 +1,12 @@
 -- What is known of a script that some text spells.
-use Rattle.std.proofs.Common.{◌≡◌, ℕ, ◌≤◌, false, List, [], ◌∷◌, ◌++◌, Option, Some, None, sym, ap, subst, ◌∙◌, append-nil, append_assoc}
+use Rattle.std.proofs.Common.{All, arith, ◌≡◌, ℕ, ◌≤◌, true, false, List, [], ◌∷◌, ◌++◌, Option, Some, None, sym, ap, subst, ◌∙◌, append-nil, append_assoc}
 use Rattle.std.specs.Prelude.{codes}
 use Rattle.std.proofs.lemmas.List.{map-append}
 use Rattle.std.proofs.lemmas.Grind.{flat_map-append}
+use Rattle.std.proofs.lemmas.List.Elements.{All-nil, All-cons}
+use Rattle.wasm_values.specs.declared.number.Val.{Val}
+use Rattle.wasm_values.specs.declared.number.Val.TheVariants.{I32, I64}
+use Rattle.wasm_typing.specs.Valid.{ValInRange}
 use Rattle.sexp_text.specs.declared.sexp.Sexp.{Sexp}
 use Rattle.script_text.specs.declared.script.Load.{Load}
 use Rattle.script_text.specs.declared.script.Action.{Action}
@@ -10,7 +14,7 @@ use Rattle.script_text.specs.declared.script.Action.TheVariants.{New, Call}
 use Rattle.script_text.specs.declared.script.Script.{Script}
 use Rattle.script_text.specs.Names.{is_among}
 use Rattle.script_text.specs.Parts.{parts_of}
-use Rattle.script_text.specs.Grammar.{Row, End, Then, Each, Listed, IsList, IsWord, IsString, IsNumber, IsKnown, IsNew, modules_of, made_by, instances_of, IsOrigin, IsLoad, IsAction, AreActions, AreLoads}
+use Rattle.script_text.specs.Grammar.{Row, End, Then, Each, Listed, IsList, IsWord, IsString, IsNumber, IsKnown, IsNew, IsStringAt, IsValue, modules_of, made_by, instances_of, IsOrigin, IsLoad, IsAction, AreActions, AreLoads}
 use Rattle.script_text.specs.Spelling.{ScriptSpells}
 use Rattle.wasm_link.specs.Answers.{IsSpelled}
 use Rattle.wasm_link.specs.words.{IsKnownAction, AreKnown}
@@ -75,15 +79,48 @@ known_actions modules before (a ∷ more) (s ∷ ss) h =
     let K : List (List ℕ) → Type 0 = λ names. AreKnown modules names more in
     (known_action modules (instances_of before) a s h.0, subst K (made_more before a) (known_actions modules (before ++ a ∷ []) more ss h.1))
 
+-- ---- values
+
+value_fits : (v : Val) (s : Sexp) → IsValue v s → ValInRange v
+value_fits (I32 n) s h = let m = (second_part (IsWord (codes "i32")) (IsNumber 0 4294967295 n) End s h).0.1.no_more in omega (arith, m)
+value_fits (I64 n) s h = let m = (second_part (IsWord (codes "i64")) (IsNumber 0 18446744073709551615 n) End s h).0.1.no_more in omega (arith, m)
+
+values_fit : (vs : List Val) (ss : List Sexp) → Each IsValue vs ss → All ValInRange vs
+values_fit [] ss h = All-nil ValInRange
+values_fit (v ∷ vs) [] h = absurd h
+values_fit (v ∷ vs) (s ∷ ss) h = All-cons ValInRange v vs (value_fits v s h.0) (values_fit vs ss h.1)
+
+-- An action makes an instance of a module that is loaded, or its arguments lie in their ranges.
+abbrev pub IsFine : (modules : List (List ℕ)) → Action → Type 0
+IsFine modules (New instance «module» from) = is_among modules «module» ≡ true
+IsFine modules (Call instance export at args) = All ValInRange args
+
+abbrev pub AreFine : (modules : List (List ℕ)) → List Action → Type 0
+AreFine modules [] = Unit {0}
+AreFine modules (a ∷ more) = IsFine modules a × AreFine modules more
+
+fine_action : (modules made : List (List ℕ)) (a : Action) (s : Sexp) → IsAction modules made a s → IsFine modules a
+fine_action modules made (New i m from) s h = (known_action modules made (New i m from) s h).1
+fine_action modules made (Call i x at args) s h =
+    let p = second_part (IsWord (codes "call")) (IsKnown made i) (Then (IsStringAt x at) (Each IsValue args)) s h in
+    let q = first_part (IsStringAt x at) (Each IsValue args) p.1.0 p.1.1 in
+    values_fit args q.1.0 q.1.1
+
+fine_actions : (modules : List (List ℕ)) (before more : List Action) (ss : List Sexp) → AreActions modules before more ss → AreFine modules more
+fine_actions modules before [] ss h = tt
+fine_actions modules before (a ∷ more) [] h = absurd h
+fine_actions modules before (a ∷ more) (s ∷ ss) h = (fine_action modules (instances_of before) a s h.0, fine_actions modules (before ++ a ∷ []) more ss h.1)
+
 -- What is known of a script.
 pub record KnownScript (x : Script) : Type 0 where
   pub few : x.steps ≤ 100000000
   pub new : AreNew [] x.loads
   pub known : AreKnown (modules_of x.loads) [] x.actions
+  pub fine : AreFine (modules_of x.loads) x.actions
 
 pub known_script : (x : Script) → IsSpelled x → KnownScript x
 unfolding ScriptSpells
 known_script x h =
     let p = second_part (IsWord (codes "script")) (IsNumber 1 100000000 x.steps) (AreLoads [] x.loads x.actions) h.1.0 h.1.2 in
     let k = known_loads [] x.loads x.actions p.1.0 p.1.1 in
-    record { few = p.0.1.no_more; new = k.new; known = known_actions (modules_of x.loads) [] x.actions k.rest k.actions_are }
+    record { few = p.0.1.no_more; new = k.new; known = known_actions (modules_of x.loads) [] x.actions k.rest k.actions_are; fine = fine_actions (modules_of x.loads) [] x.actions k.rest k.actions_are }

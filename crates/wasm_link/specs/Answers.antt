@@ -1,6 +1,7 @@
 -- What running a script answers.
-use Rattle.std.specs.Prelude.{◌≡◌, ◌⊎◌, ℕ, List, Option, Some, None, Result, Ok, Err, IfSome}
+use Rattle.std.specs.Prelude.{All, ◌≡◌, ◌⊎◌, ℕ, List, Option, Some, None, Result, Ok, Err, IfSome}
 use Rattle.wasm_syntax.specs.declared.module.Module.{Module}
+use Rattle.wasm_typing.specs.Valid.{BytesInRange}
 use Rattle.wasm_instantiate.specs.Observers.{Eyes}
 use Rattle.script_text.specs.declared.script.Script.{Script}
 use Rattle.script_text.specs.Spelling.{ScriptSpells}
@@ -12,6 +13,10 @@ use Rattle.wasm_link.specs.Loading.{Files, AreLoaded, IsFirstRefused}
 use Rattle.wasm_link.specs.Stages.{Stage, Event, first_stage, Goes}
 use Rattle.wasm_link.specs.Watching.{Watch, fresh, watched}
 use Rattle.wasm_link.specs.Logs.{modules_in, Watches, ScriptLog, ScriptLacks}
+
+-- What files hold are bytes.
+abbrev pub HoldBytes : Files → Type 0
+HoldBytes files = All (λ file. BytesInRange file.1) files
 
 -- Some text spells the script.
 abbrev pub IsSpelled : Script → Type 0

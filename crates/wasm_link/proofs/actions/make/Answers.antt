@@ -15,7 +15,7 @@ tell_made-requires-clause-ready g c =
 pub tell_made-requires-clause-there : goal.tell_made-requires-clause-there
 tell_made-requires-clause-there g c =
     let h = c.in-Ok.ensures.answers in
-    omega (arith, h.1, instances_made c.args.run.now c.instantiate.new.config c.args.module.now c.args.externs.now.items h.0)
+    omega (arith, h.1, instances_made c.args.run.now.config c.instantiate.new.config c.args.module.now c.args.externs.now.items h.0)
 
 pub returns-in-Ok : goal.returns-in-Ok
 returns-in-Ok g c = λ ms m from rest live looked named.
