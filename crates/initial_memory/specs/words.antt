@@ -1,0 +1,2 @@
+-- Words of contracts and proofs.
+pub mod Windows

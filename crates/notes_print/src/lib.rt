@@ -1,0 +1,13 @@
+//! Notes printed as their one text.
+#![tactic(auto)]
+
+mod bytes;
+mod chunks;
+mod formulas;
+mod kinds;
+mod lists;
+mod moves;
+mod names;
+mod steps;
+mod terms;
+mod uses;

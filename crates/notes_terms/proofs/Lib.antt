@@ -1,0 +1,5 @@
+pub mod PartLemmas
+pub mod Beginnings
+pub mod Claims
+pub mod EntryLoop
+pub mod StepLemmas

@@ -1,0 +1,6 @@
+pub mod Counting
+pub mod Itself
+pub mod Passings
+pub mod Puttings
+pub mod StepParts
+pub mod Tested

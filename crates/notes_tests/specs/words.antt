@@ -1,0 +1,3 @@
+-- Words of contracts and proofs.
+pub mod Passing
+pub mod Tests

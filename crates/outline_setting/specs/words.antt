@@ -1,0 +1,4 @@
+-- Words of contracts and proofs.
+pub mod Judging
+pub mod Kept
+pub mod Trees

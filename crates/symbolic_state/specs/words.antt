@@ -1,0 +1,4 @@
+pub mod Limits
+pub mod Entries
+pub mod Sizes
+pub mod Instances

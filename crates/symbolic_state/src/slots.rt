@@ -1,0 +1,63 @@
+ghost use Rattle.std.specs.Prelude.{◌≡◌, ◌<◌, length, option_map, IfSome};
+ghost use Rattle.term_trees.specs.declared.term.Place.{Place};
+ghost use Rattle.term_logic.specs.Table.{tree_at};
+ghost use Rattle.term_logic.specs.Leaves.{place_id, leaves_of, LeavesWithin};
+ghost use Rattle.heap_logic.specs.Heaps.{AreSlots};
+ghost use Rattle.outline_rules.specs.Leaves.{state_place};
+ghost use Rattle.symbolic_state.specs.declared.state.SymState.{SymState};
+ghost use Rattle.symbolic_state.specs.words.Entries.{AreSlotsOf};
+
+use crate::state::SymState;
+use crate::tracked::TrackedState;
+use term_logic::{LeafIds, Place, TermId};
+use wasm_values::{List, ValType};
+
+/// These slots as leaves.
+pub(crate) fn slots_from<'a>(
+    locals: &'a List<(ValType, TermId)>,
+    stack: &'a List<(ValType, TermId)>,
+    globals: &'a List<Option<TermId>>,
+    pages: Option<TermId>,
+    args: &'a List<TermId>,
+) -> LeafIds<'a>
+    ensures { (s : SymState) → s.locals ≡ locals.entry.now → s.stack ≡ stack.entry.now → s.globals ≡ globals.entry.now → s.pages ≡ pages → s.args ≡ args.entry.now → AreSlotsOf s result }
+{
+    LeafIds::none()
+        .with_locals(locals.as_slice())
+        .with_stack(stack.as_slice())
+        .with_globals(globals.as_slice())
+        .with_pages(pages)
+        .with_args(args.as_slice())
+}
+
+/// The slots of a state as leaves.
+pub(crate) fn slots_of(state: &SymState) -> LeafIds<'_>
+    ensures { AreSlotsOf state.now result }
+{
+    LeafIds::none()
+        .with_locals(state.locals.as_slice())
+        .with_stack(state.stack.as_slice())
+        .with_globals(state.globals.as_slice())
+        .with_pages(state.pages)
+        .with_args(state.args.as_slice())
+}
+
+impl TrackedState {
+    /// The places that have a term, with their terms.
+    #[tactic(auto, using(crate::proofs::Placed::placed))]
+    pub fn slots(&self) -> LeafIds<'_>
+        ensures places { (p : Place) → option_map (tree_at self.now.terms) (place_id result p) ≡ state_place self.now.state p }
+        ensures slots { AreSlots result }
+        ensures within { LeavesWithin (length self.now.terms) result }
+    {
+        slots_of(&self.state)
+    }
+
+    /// The term that a place stands for, if there is one.
+    pub fn term_at(&self, place: Place) -> Option<TermId>
+        ensures term { option_map (tree_at self.now.terms) result ≡ state_place self.now.state place }
+        ensures within { IfSome result (λ id. id < length self.now.terms) }
+    {
+        self.slots().place(place)
+    }
+}

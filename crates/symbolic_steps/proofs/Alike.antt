@@ -1,0 +1,4 @@
+-- Terms that are found the same are equal.
+use Rattle.term_trees.proofs.Sameness.{same-exact}
+
+pub ruleset alike = (same-exact)
