@@ -1,3 +1,4 @@
 pub mod ListLemmas
+pub mod SettingLemmas
 pub mod StepLemmas
 pub mod UseLemmas

@@ -1,8 +1,8 @@
 -- The shape of a step by its layer, and its tree under any sub-derivations.
-use Rattle.std.proofs.Common.{◌≡◌, ℕ, zero, suc, ◌+◌, ◌<◌, ◌≤◌, true, List, [], ◌∷◌, ◌++◌, map, refl, sym, ap, ◌∙◌, arith}
-use Rattle.bitvector_rules.specs.declared.step.Step.{Step, Step-F, out-Step, roll-Step, roll-out-Step, map-Step, fold-Step, fold_out-Step}
+use Rattle.std.proofs.Common.{◌≡◌, ℕ, zero, suc, ◌+◌, ◌<◌, true, List, [], ◌∷◌, ◌++◌, map, refl, sym, ap, ◌∙◌, arith}
+use Rattle.bitvector_rules.specs.declared.step.Step.{Step, out-Step, roll-out-Step, fold_out-Step}
 use Rattle.bitvector_rules.proofs.Weights.{weight, weights, weights_of, weight_out}
-use Rattle.sexp_text.specs.Printing.{Tree, Trees, Branch, Cons}
+use Rattle.sexp_text.specs.Printing.{Branch, Cons}
 use Rattle.notes_grammar.specs.Shapes.{Shape, word, listed, trees_in, step, formula, reference, whole}
 use Rattle.notes_grammar.specs.Words.{rule_name}
 use Rattle.notes_grammar.proofs.StepLaws.{Sub, step_is}

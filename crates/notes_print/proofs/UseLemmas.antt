@@ -2,8 +2,8 @@
 use Rattle.std.proofs.Common.{◌≡◌, ℕ, List, [], ◌∷◌, ◌++◌, refl, sym, ap, ◌∙◌, append_assoc, append-nil}
 use Rattle.notes.specs.declared.uses.Use.{Use}
 use Rattle.notes.specs.declared.uses.Use.TheVariants as used
-use Rattle.notes_grammar.specs.Printed.{printed_tree, printed_more}
-use Rattle.notes_grammar.specs.Shapes.{Shape, trees_in, use_of}
+use Rattle.notes_grammar.specs.Printed.{printed_more}
+use Rattle.notes_grammar.specs.Shapes.{trees_in, use_of}
 use Rattle.notes_print.specs.Plain.{plain, first_text}
 
 spaced : (u : Use) → (u ≡ used.Nothing → ⊥) → printed_more (trees_in (use_of plain u)) ≡ 32 ∷ first_text (use_of plain u)

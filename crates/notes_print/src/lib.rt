@@ -8,6 +8,9 @@ mod kinds;
 mod lists;
 mod moves;
 mod names;
+mod outline;
 mod steps;
 mod terms;
 mod uses;
+
+pub use outline::print_notes;
