@@ -5,7 +5,7 @@ use Rattle.wasm_values.specs.declared.number.ValType.{ValType}
 use Rattle.wasm_values.specs.declared.number.ValType.TheVariants.{I32}
 use Rattle.body_check.specs.words.Known.{Known}
 use Rattle.wasm_typing.specs.Typing.{Types, Turns, Takes}
-use Rattle.body_check.specs.declared.operands.Floor.{Floor}
+use Rattle.body_check.specs.declared.open.Floor.{Floor}
 use Rattle.body_check.specs.words.Operands.{IsOfType, StandsFor, Are, lower, Advances, IsStuck, Took, TookAny, Pushed, IsCommon, Gave}
 
 -- a type that an operand may have

@@ -1,5 +1,5 @@
 -- A walk over a body, item by item.
-use Rattle.std.proofs.Common.{length-append, ◌≡◌, length, arith, Bool, true, false, List, [], ◌∷◌, ◌++◌, reverse, Option, Some, None, refl, sym, ap, ◌∙◌, subst, append_assoc}
+use Rattle.std.proofs.Common.{length-append, map, ◌≡◌, length, arith, Bool, true, false, List, [], ◌∷◌, ◌++◌, reverse, Option, Some, None, refl, sym, ap, ◌∙◌, subst, append_assoc}
 use Rattle.std.specs.Option.{is_some}
 use Rattle.std.proofs.lemmas.List.{reverse-append, reverse-reverse}
 use Rattle.std.proofs.Math.Seq.{take-append_seam, drop-append_seam}
@@ -13,13 +13,14 @@ use Rattle.wasm_syntax.specs.declared.flat.Head.TheVariants as head
 use Rattle.wasm_syntax.specs.Trees.{instruction_of, sequence_of}
 use Rattle.wasm_syntax.specs.Parts.{Part, own, begun, with_instr, turned, instr_of, closed_part, with_last, closed, then_item}
 use Rattle.wasm_syntax.proofs.TreeLaws.{instruction_of-Block, instruction_of-Loop, instruction_of-If, instruction_of-IfElse}
-use Rattle.body_check.specs.declared.operands.Floor.{Floor}
-use Rattle.body_check.specs.declared.walk.Open.{Open}
+use Rattle.body_check.specs.declared.open.Floor.{Floor}
+use Rattle.body_check.specs.declared.open.Open.{Open}
 use Rattle.wasm_typing.specs.Typing.{Types, Context, Turns, InstructionTyped, SequenceTyped, BodyTyped}
 use Rattle.wasm_typing.specs.faults.Open.{part_results, label_of, labels_of, before_part, FirstSideTyped, PartsTyped}
 use Rattle.body_check.specs.words.Known.{Known}
 use Rattle.body_check.specs.words.Operands.{Are, Exactly, Advances, IsStuck, Gave, lower}
-use Rattle.body_check.specs.words.Walks.{then_inner, MayEnd, IsAround, IsOpen}
+use Rattle.body_check.specs.words.Steps.{taken_by_branch}
+use Rattle.body_check.specs.words.Walks.{then_inner, MayEnd, floor_under, IsAround, IsOpen}
 use Rattle.body_check.proofs.OperandLemmas.{are_some}
 
 -- ---- one more instruction of a sequence
@@ -39,9 +40,9 @@ snoc_from c labels (j ∷ is) i ins mid outs a b = (a.0, a.1, snoc_from c labels
 -- ---- what stands for open parts has a typing
 
 around_typed : (c : Context) (p : Part) (below : List (Option ValType)) (os : List Open) (around : List Part) → ((s : Known) (os' : List Open) → IsOpen c p.head s os' around → PartsTyped c p.head around) →
-    IsAround p below os around (λ o os'. IsOpen c p.head (lower o.floor below) os' around) → PartsTyped c p.head around
+    IsAround p below os around (λ o os'. IsOpen c p.head (lower (floor_under o) below) os' around) → PartsTyped c p.head around
 around_typed c p below [] around rec h = let M : List Part → Type 0 = λ ps. PartsTyped c p.head ps in subst M (sym h.1) tt
-around_typed c p below (o ∷ os) around rec h = rec (lower o.floor below) os h.3
+around_typed c p below (o ∷ os) around rec h = rec (lower (floor_under o) below) os h.3
 
 pub open_typed : (c : Context) (inner : Option Head) (s : Known) (os : List Open) (ps : List Part) → IsOpen c inner s os ps → PartsTyped c inner ps
 open_typed c inner s os [] h = absurd h
@@ -49,21 +50,38 @@ open_typed c inner s os (p ∷ around) h =
     let some = are_some s in
     ((some.0, h.0.0.0 some.0 some.1), h.0.1, around_typed c p s.below os around (λ s' os' h'. open_typed c p.head s' os' around h') h.1)
 
+-- ---- labels
+
+taken_same : (c : Context) (hd : Head) → taken_by_branch hd ≡ label_of c (Some hd)
+taken_same c (head.Block ty) = refl
+taken_same c (head.Loop ty) = refl
+taken_same c (head.If ty) = refl
+
+-- what branches to the labels of open blocks take, and to the function's own, is what they take at open parts
+pub labels_open : (c : Context) (inner : Option Head) (s : Known) (os : List Open) (ps : List Part) → IsOpen c inner s os ps →
+    map (λ (o : Open). taken_by_branch o.head) os ++ c.results ∷ [] ≡ labels_of c ps
+labels_open c inner s os [] h = absurd h
+labels_open c inner s [] (p ∷ around) h =
+    sym (ap (λ hd. label_of c hd ∷ labels_of c around) h.1.0 ∙ ap (λ ps. label_of c None ∷ labels_of c ps) h.1.1)
+labels_open c inner s (o ∷ os) (p ∷ around) h =
+    ap (λ ts. taken_by_branch o.head ∷ ts) (labels_open c p.head (lower (floor_under o) s.below) os around h.1.3) ∙
+    ap (λ t. t ∷ labels_of c around) (taken_same c o.head ∙ ap (label_of c) (sym h.1.0))
+
 -- ---- an instruction that holds no others
 
 -- what is around a part is the same over the same operands below
 around_same : (c : Context) (s n : Known) (os : List Open) (p r : Part) (around : List Part) → n.below ≡ s.below → r.head ≡ p.head → r.first ≡ p.first →
-    IsAround p s.below os around (λ o os'. IsOpen c p.head (lower o.floor s.below) os' around) →
-    IsAround r n.below os around (λ o os'. IsOpen c r.head (lower o.floor n.below) os' around)
+    IsAround p s.below os around (λ o os'. IsOpen c p.head (lower (floor_under o) s.below) os' around) →
+    IsAround r n.below os around (λ o os'. IsOpen c r.head (lower (floor_under o) n.below) os' around)
 around_same c s n os p r around e hd first h =
-    let B : List (Option ValType) → Type 0 = λ b. IsAround p b os around (λ o os'. IsOpen c p.head (lower o.floor b) os' around) in
+    let B : List (Option ValType) → Type 0 = λ b. IsAround p b os around (λ o os'. IsOpen c p.head (lower (floor_under o) b) os' around) in
     headed os (subst B (sym e) h)
   where
-    headed : (os : List Open) → IsAround p n.below os around (λ o os'. IsOpen c p.head (lower o.floor n.below) os' around) →
-        IsAround r n.below os around (λ o os'. IsOpen c r.head (lower o.floor n.below) os' around)
+    headed : (os : List Open) → IsAround p n.below os around (λ o os'. IsOpen c p.head (lower (floor_under o) n.below) os' around) →
+        IsAround r n.below os around (λ o os'. IsOpen c r.head (lower (floor_under o) n.below) os' around)
     headed [] h = (hd ∙ h.0, h.1)
     headed (o ∷ os') h =
-        let H : Option Head → Type 0 = λ k. IsOpen c k (lower o.floor n.below) os' around in
+        let H : Option Head → Type 0 = λ k. IsOpen c k (lower (floor_under o) n.below) os' around in
         (hd ∙ h.0, h.1 ∙ ap is_some (sym first), h.2, subst H (sym hd) h.3)
 
 pub one_more : (c : Context) (s n : Known) (os : List Open) (p : Part) (around : List Part) (i : Instr) → n.below ≡ s.below →
@@ -90,7 +108,7 @@ one_stuck c s os p around i a h t =
 -- ---- a block begins
 
 abbrev pub opened : Head → Bool → Floor → Open
-opened hd t floor = record { head = hd; turned = t; floor = floor }
+opened hd t floor = record { head = hd; turned = t; dead = floor.dead; base = floor.base }
 
 -- where operands of a block begin
 abbrev pub floor_of : Known → Floor
@@ -131,9 +149,9 @@ no_block c s os p around hd never h t = never t.2.0.0 (h.0.0.1 (before_part (Som
 
 pub side_turns : (c : Context) (s n : Known) (o : Open) (os : List Open) (p : Part) (around : List Part) →
     Are s (part_results c p.head) → n ≡ record { below = s.below; here = []; dead = false } →
-    IsOpen c None s (o ∷ os) (p ∷ around) → IsOpen c None n (opened o.head true o.floor ∷ os) (turned p ∷ around)
+    IsOpen c None s (o ∷ os) (p ∷ around) → IsOpen c None n (opened o.head true (floor_under o) ∷ os) (turned p ∷ around)
 side_turns c s n o os p around a is h =
-    let K : Known → Type 0 = λ k. IsOpen c None k (opened o.head true o.floor ∷ os) (turned p ∷ around) in
+    let K : Known → Type 0 = λ k. IsOpen c None k (opened o.head true (floor_under o) ∷ os) (turned p ∷ around) in
     subst K (sym is) (((λ ts q. sym q, λ ts t. sym t), h.0.0.0 (part_results c p.head) a), (h.1.0, refl, h.1.2, h.1.3))
 
 pub own_turns : (c : Context) (s n : Known) (p : Part) (around : List Part) →
@@ -197,7 +215,7 @@ pub as_part : (p : Part) (hd : Head) → p.head ≡ Some hd → p ≡ part hd p.
 as_part p hd e = λ j. record { head = e j; first = p.first; instrs = p.instrs }
 
 block_ends_at : (c : Context) (s n : Known) (o : Open) (os : List Open) (first : Option (List Instr)) (is : List Instr) (q : Part) (ps : List Part) →
-    Are s (part_results c (Some o.head)) → MayEnd o.head o.turned → n.below ≡ (lower o.floor s.below).below → Gave (Are (lower o.floor s.below)) (Are n) (part_results c (Some o.head)) →
+    Are s (part_results c (Some o.head)) → MayEnd o.head o.turned → n.below ≡ (lower (floor_under o) s.below).below → Gave (Are (lower (floor_under o) s.below)) (Are n) (part_results c (Some o.head)) →
     IsOpen c None s (o ∷ os) (part o.head first is ∷ q ∷ ps) → IsOpen c None n os (with_instr (closed_part (part o.head first is)) q ∷ ps)
 block_ends_at c s n o os first is q ps a m same g h =
     let L = labels_of c (q ∷ ps) in
@@ -221,11 +239,11 @@ block_ends_at c s n o os first is q ps a m same g h =
         ),
         below.0.1,
       ),
-      around_same c (lower o.floor s.below) n os q (with_instr i q) ps same refl refl below.1,
+      around_same c (lower (floor_under o) s.below) n os q (with_instr i q) ps same refl refl below.1,
     )
 
 pub block_ends : (c : Context) (s n : Known) (o : Open) (os : List Open) (p q : Part) (ps : List Part) →
-    Are s (part_results c (Some o.head)) → MayEnd o.head o.turned → n.below ≡ (lower o.floor s.below).below → Gave (Are (lower o.floor s.below)) (Are n) (part_results c (Some o.head)) →
+    Are s (part_results c (Some o.head)) → MayEnd o.head o.turned → n.below ≡ (lower (floor_under o) s.below).below → Gave (Are (lower (floor_under o) s.below)) (Are n) (part_results c (Some o.head)) →
     IsOpen c None s (o ∷ os) (p ∷ q ∷ ps) → IsOpen c None n os (with_instr (closed_part p) q ∷ ps)
 block_ends c s n o os p q ps a m kept g h =
     let same = as_part p o.head h.1.0 in

@@ -19,7 +19,7 @@ use wasm_typing::{ValidFault, ValidWord};
 use wasm_values::{List, ValType};
 
 /// Checks the body of a function.
-fn check_body(alloc: Global, names: &Names<'_>, places: &[usize]) -> Result<(), ValidFault>
+fn check_body(walk: &mut Walk, names: &Names<'_>, places: &[usize]) -> Result<(), ValidFault>
     requires names { AreNames names.now }
     requires places { length places.now ≡ length (flat_body names.now.func.now.body) }
     ensures { Answers
@@ -29,7 +29,7 @@ fn check_body(alloc: Global, names: &Names<'_>, places: &[usize]) -> Result<(), 
 {
     let body = &names.func.body;
     let last = places.len() - 1;
-    let mut walk = Walk::new(alloc, names.results)?;
+    walk.restart();
     for n in 0..last {
         if let Some(word) = walk.advance(names, body.at(n))? {
             return Err(ValidFault::Invalid {
@@ -61,7 +61,7 @@ fn first_result(results: &[ValType]) -> Option<ValType>
 
 /// Checks the body of one of a module's functions.
 fn check_func(
-    alloc: Global,
+    walk: &mut Walk,
     module: &Module,
     scope: &Scope,
     func: &Func,
@@ -84,7 +84,26 @@ fn check_func(
         params: ty.params.as_slice(),
         results: first_result(ty.results.as_slice()),
     };
-    check_body(alloc, &names, places)
+    check_body(walk, &names, places)
+}
+
+/// Checks the bodies of a module's functions by one walk, which keeps its room from body to body.
+fn check_all(
+    walk: &mut Walk,
+    module: &Module,
+    scope: &Scope,
+    code: &[List<usize>],
+) -> Result<(), ValidFault>
+    requires scope { IsScopeOf «module».now scope.now }
+    requires types { HasTypes «module».now }
+    requires code { length code.now ≡ length «module».now.funcs }
+    requires places { (n : ℕ) (f : Func) (places : List ℕ) → slice_get «module».now.funcs n ≡ Some f → slice_get code.now n ≡ Some places → length places ≡ length (flat_body f.body) }
+    ensures { Answers (λ done. BodiesValid «module».now) (CodeFault «module».now code.now) result }
+{
+    for (n, func) in module.funcs.as_slice().iter().enumerate() {
+        check_func(walk, module, scope, func, code[n].as_slice())?;
+    }
+    Ok(())
 }
 
 /// Checks the bodies of a module's functions, with the places of the instructions of each.
@@ -100,8 +119,6 @@ pub fn check_bodies(
     requires places { (n : ℕ) (f : Func) (places : List ℕ) → slice_get «module».now.funcs n ≡ Some f → slice_get code.now n ≡ Some places → length places ≡ length (flat_body f.body) }
     ensures { Answers (λ done. BodiesValid «module».now) (CodeFault «module».now code.now) result }
 {
-    for (n, func) in module.funcs.as_slice().iter().enumerate() {
-        check_func(alloc, module, scope, func, code[n].as_slice())?;
-    }
-    Ok(())
+    let mut walk = Walk::new(alloc);
+    check_all(&mut walk, module, scope, code)
 }

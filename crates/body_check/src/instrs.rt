@@ -11,6 +11,7 @@ ghost use Rattle.body_check.specs.words.Steps.{context_in, AreNames, labels_in, 
 
 use crate::names::{self, Names};
 use crate::needs::first_need;
+use crate::open::{Labels, label_at};
 use crate::operands::Operands;
 use wasm_syntax::{Plain, Simple, loaded_type, stored_type};
 use wasm_typing::ValidWord;
@@ -19,7 +20,7 @@ use wasm_values::{NumOp, OutOfMemory, ValType};
 fn act_plain(
     operands: &mut Operands,
     names: &Names<'_>,
-    labels: &[Option<ValType>],
+    labels: &Labels<'_>,
     op: Plain,
 ) -> Result<bool, OutOfMemory>
     requires names { AreNames names.now }
@@ -44,7 +45,7 @@ fn act_plain(
 fn act_variable(
     operands: &mut Operands,
     names: &Names<'_>,
-    labels: &[Option<ValType>],
+    labels: &Labels<'_>,
     instr: Simple<'_>,
 ) -> Result<bool, OutOfMemory>
     requires names { AreNames names.now }
@@ -121,7 +122,7 @@ fn turn_over(
 fn act_transfer(
     operands: &mut Operands,
     names: &Names<'_>,
-    labels: &[Option<ValType>],
+    labels: &Labels<'_>,
     instr: Simple<'_>,
 ) -> Result<bool, OutOfMemory>
     requires names { AreNames names.now }
@@ -131,15 +132,15 @@ fn act_transfer(
     ensures goes { Acts result (Are operands.old) (Are operands.new) (context_in names.now) (labels_in labels.now) (instr_seen instr.entry) }
 {
     match instr {
-        Simple::Br(l) => match names::label_at(labels, l) {
+        Simple::Br(l) => match label_at(labels, l) {
             Some(ty) => Ok(operands.leave_with(ty)),
             None => Ok(false),
         },
-        Simple::BrIf(l) => match names::label_at(labels, l) {
+        Simple::BrIf(l) => match label_at(labels, l) {
             Some(ty) => operands.keep_with(ty),
             None => Ok(false),
         },
-        Simple::BrTable(_, l) => match names::label_at(labels, l) {
+        Simple::BrTable(_, l) => match label_at(labels, l) {
             Some(ty) => Ok(operands.choose_with(ty)),
             None => Ok(false),
         },
@@ -159,7 +160,7 @@ fn act_transfer(
 fn act(
     operands: &mut Operands,
     names: &Names<'_>,
-    labels: &[Option<ValType>],
+    labels: &Labels<'_>,
     instr: Simple<'_>,
 ) -> Result<bool, OutOfMemory>
     requires names { AreNames names.now }
@@ -188,7 +189,7 @@ fn act(
 pub(crate) fn step(
     operands: &mut Operands,
     names: &Names<'_>,
-    labels: &[Option<ValType>],
+    labels: &Labels<'_>,
     instr: Simple<'_>,
 ) -> Result<Option<ValidWord>, OutOfMemory>
     requires names { AreNames names.now }

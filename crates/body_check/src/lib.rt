@@ -6,6 +6,7 @@ mod body;
 mod instrs;
 mod names;
 mod needs;
+mod open;
 mod operands;
 mod scope;
 mod walk;

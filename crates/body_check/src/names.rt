@@ -1,6 +1,5 @@
-ghost use Rattle.std.specs.Prelude.{◌≡◌, ◌<◌, ◌-◌, length, slice_get, option_map, map};
-ghost use Rattle.wasm_typing.specs.Typing.{types_of};
-ghost use Rattle.body_check.specs.words.Steps.{context_in, AreNames, labels_in};
+ghost use Rattle.std.specs.Prelude.{◌≡◌, slice_get, option_map};
+ghost use Rattle.body_check.specs.words.Steps.{context_in, AreNames};
 
 use crate::scope::Scope;
 use wasm_syntax::{Func, FuncType, GlobalType, Module};
@@ -58,16 +57,4 @@ pub(crate) fn numbered_type<'a>(names: &Names<'a>, t: u32) -> Option<&'a FuncTyp
     ensures { option_map (λ ty. ty.now) result ≡ slice_get (context_in names.now).types t }
 {
     names.whole.types.as_slice().get(t as usize)
-}
-
-/// What a branch to a label takes, by its number.
-pub(crate) fn label_at(labels: &[Option<ValType>], l: u32) -> Option<Option<ValType>>
-    ensures { option_map types_of result ≡ slice_get (labels_in labels.now) l }
-{
-    let l = l as usize;
-    if l < labels.len() {
-        Some(labels[labels.len() - 1 - l])
-    } else {
-        None
-    }
 }

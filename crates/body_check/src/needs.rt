@@ -10,6 +10,7 @@ ghost use Rattle.wasm_typing.specs.faults.Faults.{condition, first_failing, cond
 ghost use Rattle.body_check.specs.words.Steps.{context_in, AreNames, labels_in};
 
 use crate::names::{self, Names};
+use crate::open::{Labels, label_at};
 use wasm_syntax::{Plain, Simple, bytes_loaded, bytes_stored};
 use wasm_typing::ValidWord;
 use wasm_values::ValType;
@@ -34,26 +35,26 @@ fn is_same(a: Option<ValType>, b: Option<ValType>) -> bool
 }
 
 /// Whether a branch to a label takes this.
-fn is_label(labels: &[Option<ValType>], l: u32, wanted: Option<ValType>) -> bool
+fn is_label(labels: &Labels<'_>, l: u32, wanted: Option<ValType>) -> bool
     ensures { result ≡ is_label_of (slice_get (labels_in labels.now) l) (types_of wanted) }
 {
-    match names::label_at(labels, l) {
+    match label_at(labels, l) {
         Some(label) => is_same(label, wanted),
         None => false,
     }
 }
 
 /// Whether a branch to each of these labels takes what one to the last does.
-fn have_one_type(labels: &[Option<ValType>], targets: &[u32], last: u32) -> bool
+fn have_one_type(labels: &Labels<'_>, targets: &[u32], last: u32) -> bool
     ensures { result ≡ are_targets (labels_in labels.now) targets.now (slice_get (labels_in labels.now) last) }
 {
-    match names::label_at(labels, last) {
+    match label_at(labels, last) {
         Some(wanted) => all_labels(labels, targets, wanted),
         None => false,
     }
 }
 
-fn all_labels(labels: &[Option<ValType>], targets: &[u32], wanted: Option<ValType>) -> bool
+fn all_labels(labels: &Labels<'_>, targets: &[u32], wanted: Option<ValType>) -> bool
     ensures { result ≡ list_all (λ l. is_label_of (slice_get (labels_in labels.now) l) (types_of wanted)) targets.now }
 {
     for l in targets {
@@ -108,7 +109,7 @@ fn set_fault(names: &Names<'_>, x: u32) -> Option<ValidWord>
 /// The first need of an instruction that isn't met, as its word.
 pub(crate) fn first_need(
     names: &Names<'_>,
-    labels: &[Option<ValType>],
+    labels: &Labels<'_>,
     instr: Simple<'_>,
 ) -> Option<ValidWord>
     requires { AreNames names.now }
@@ -125,7 +126,7 @@ pub(crate) fn first_need(
         Simple::GlobalSet(x) => set_fault(names, x),
         Simple::Load(op, align, _) => align_fault(names, align, bytes_loaded(op)),
         Simple::Store(op, align, _) => align_fault(names, align, bytes_stored(op)),
-        Simple::Br(l) | Simple::BrIf(l) => label_unless(names::label_at(labels, l).is_some()),
+        Simple::Br(l) | Simple::BrIf(l) => label_unless(label_at(labels, l).is_some()),
         Simple::BrTable(ls, l) => label_unless(have_one_type(labels, ls, l)),
         Simple::Call(f) => index_unless(names::func_type(names, f).is_some()),
         Simple::CallIndirect(t) => index_unless(

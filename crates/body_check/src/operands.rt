@@ -5,7 +5,7 @@ ghost use Rattle.wasm_values.specs.declared.number.ValType.{ValType};
 ghost use Rattle.wasm_typing.specs.Typing.{Types, types_of, Turns, Takes};
 ghost use Rattle.body_check.specs.words.Operands.{Exactly, IsOfType, IsCommon, Are, lower, Popped, TookAny, Pushed, Advances, IsStuck, Goes, Took, Gave};
 
-use smallvec::SmallVec;
+use crate::open::Floor;
 use std::alloc::Global;
 use std::marker::Model;
 use wasm_values::{OutOfMemory, ValType};
@@ -14,16 +14,9 @@ use wasm_values::{OutOfMemory, ValType};
 /// type, and in dead code any operands may lie below the innermost block's own.
 #[derive(Drop)]
 pub struct Operands {
-    items: SmallVec<Option<ValType>, 32>,
+    items: Vec<Option<ValType>>,
     base: usize,
     dead: bool,
-}
-
-/// Where the operands of a block begin, and whether its code is dead.
-#[derive(Clone, Copy)]
-pub struct Floor {
-    pub base: usize,
-    pub dead: bool,
 }
 
 impl Model for Operands {
@@ -67,10 +60,19 @@ impl Operands {
         ensures { result ≡ record { below = []; here = []; dead = false } }
     {
         Operands {
-            items: SmallVec::new(alloc),
+            items: Vec::new(alloc),
             base: 0,
             dead: false,
         }
+    }
+
+    /// Back to no operands. The list keeps its room.
+    pub fn restart(&mut self)
+        ensures { self.new ≡ record { below = []; here = []; dead = false } }
+    {
+        self.items.clear();
+        self.base = 0;
+        self.dead = false;
     }
 
     /// A block begins with no operands of its own. What is answered is where those of the block around it began.
@@ -260,7 +262,7 @@ impl Operands {
         ensures yes { result ≡ true → Are self.now [] }
         ensures no { result ≡ false → Are self.now [] → ⊥ }
     {
-        self.items.len() == self.base
+        self.items.as_slice().len() == self.base
     }
 
     /// Whether the operands are exactly these results, which are then taken. Else what is left of them means nothing.

@@ -4,64 +4,25 @@ ghost use Rattle.std.specs.Prelude.{◌≡◌, [], ◌∷◌, ◌++◌, true, fa
 ghost use Rattle.wasm_syntax.specs.declared.flat.Flat.{Flat};
 ghost use Rattle.wasm_syntax.specs.Parts.{Part, own};
 ghost use Rattle.wasm_typing.specs.Typing.{Types, Context, types_of};
-ghost use Rattle.wasm_typing.specs.faults.Open.{label_of, part_results, before_part};
+ghost use Rattle.wasm_typing.specs.faults.Open.{before_part};
 ghost use Rattle.body_check.specs.words.Operands.{Are, Exactly};
 ghost use Rattle.body_check.specs.words.Steps.{context_in, AreNames};
 ghost use Rattle.body_check.specs.words.Walks.{IsAt, Walked, Begins, Leads, MayEnd, IsOneSimple};
 
 use crate::instrs::step;
 use crate::names::Names;
-use crate::operands::{Floor, Operands};
-use smallvec::SmallVec;
+use crate::open::{Floor, Labels, Open, may_end, results_of};
+use crate::operands::Operands;
 use std::alloc::Global;
 use wasm_syntax::{Head, Item, Seen};
 use wasm_typing::ValidWord;
 use wasm_values::{OutOfMemory, ValType};
 
-/// A block that is open, and where the operands of the block around it begin. `turned` tells that its `else` was passed.
-#[derive(Clone, Copy)]
-pub struct Open {
-    pub head: Head,
-    pub turned: bool,
-    pub floor: Floor,
-}
-
-/// Where a walk stands: the operands, the open blocks, and what a branch to each label takes, the function's own label first.
+/// Where a walk stands: the operands, and the open blocks.
 #[derive(Drop)]
 pub struct Walk {
     pub operands: Operands,
     pub opens: Vec<Open>,
-    pub labels: SmallVec<Option<ValType>, 8>,
-}
-
-/// The results of a block.
-fn results_of(head: Head) -> Option<ValType>
-    ensures { (c : Context) → types_of result ≡ part_results c (Some head) }
-{
-    match head {
-        Head::Block(ty) | Head::Loop(ty) | Head::If(ty) => ty,
-    }
-}
-
-/// What a branch to a block's label takes.
-fn label_type(head: Head) -> Option<ValType>
-    ensures { (c : Context) → types_of result ≡ label_of c (Some head) }
-{
-    match head {
-        Head::Block(ty) | Head::If(ty) => ty,
-        Head::Loop(_) => None,
-    }
-}
-
-/// Whether a block may end: an `if` without `else` has no result.
-fn may_end(head: Head, turned: bool) -> bool
-    ensures yes { result ≡ true → MayEnd head turned }
-    ensures no { result ≡ false → MayEnd head turned → ⊥ }
-{
-    match head {
-        Head::If(Some(_)) => turned,
-        _ => true,
-    }
 }
 
 /// Takes the choice of an `if`, if it is there; other blocks take none.
@@ -76,18 +37,6 @@ fn take_choice(operands: &mut Operands, head: Head) -> bool
     }
 }
 
-fn push_label(
-    labels: &mut SmallVec<Option<ValType>, 8>,
-    label: Option<ValType>,
-) -> Result<(), OutOfMemory>
-    ensures { OnOk result (labels.new.items ≡ labels.old.items ++ label ∷ []) }
-{
-    match labels.push(label) {
-        Ok(()) => Ok(()),
-        Err(_) => Err(OutOfMemory),
-    }
-}
-
 fn push_open(opens: &mut Vec<Open>, block: Open) -> Result<(), OutOfMemory>
     ensures { OnOk result (opens.new.items ≡ opens.old.items ++ block ∷ []) }
 {
@@ -98,36 +47,40 @@ fn push_open(opens: &mut Vec<Open>, block: Open) -> Result<(), OutOfMemory>
 }
 
 impl Walk {
-    /// At the head of a body with these results.
-    pub fn new(alloc: Global, results: Option<ValType>) -> Result<Walk, OutOfMemory>
-        ensures { IfOk result (λ w. (c : Context) → types_of results ≡ c.results → IsAt c w (own [] ∷ [])) }
+    /// At the head of a body. This takes no memory.
+    pub fn new(alloc: Global) -> Walk
+        ensures { (c : Context) → IsAt c result (own [] ∷ []) }
     {
-        let mut labels = SmallVec::new(alloc);
-        match labels.push(results) {
-            Ok(()) => Ok(Walk {
-                operands: Operands::new(alloc),
-                opens: Vec::new(alloc),
-                labels,
-            }),
-            Err(_) => Err(OutOfMemory),
+        Walk {
+            operands: Operands::new(alloc),
+            opens: Vec::new(alloc),
         }
     }
 
+    /// Goes back to the head of a body. Both lists keep their room.
+    pub fn restart(&mut self)
+        ensures { (c : Context) → IsAt c self.new (own [] ∷ []) }
+    {
+        self.operands.restart();
+        self.opens.clear();
+    }
+
     /// Opens a block, or tells that its choice isn't there.
+    #[inline(always)]
     fn begin(&mut self, head: Head) -> Result<bool, OutOfMemory>
         ensures { IfOk result (λ began. (c : Context) (ps : List Part) → IsAt c self.old ps → Begins began c self.new ps head) }
     {
         if !take_choice(&mut self.operands, head) {
             return Ok(false);
         }
-        push_label(&mut self.labels, label_type(head))?;
         let floor = self.operands.begin();
         push_open(
             &mut self.opens,
             Open {
                 head,
                 turned: false,
-                floor,
+                dead: floor.dead,
+                base: floor.base,
             },
         )?;
         Ok(true)
@@ -148,7 +101,8 @@ impl Walk {
                     Open {
                         head: open.head,
                         turned: true,
-                        floor: open.floor,
+                        dead: open.dead,
+                        base: open.base,
                     },
                 )?;
                 Ok(true)
@@ -175,9 +129,11 @@ impl Walk {
                 if !self.operands.finish(results_of(open.head)) {
                     return Ok(false);
                 }
-                self.operands.end(open.floor);
+                self.operands.end(Floor {
+                    base: open.base,
+                    dead: open.dead,
+                });
                 self.operands.give_with(results_of(open.head))?;
-                let _ = self.labels.pop();
                 Ok(true)
             }
             None => Ok(true),
@@ -195,12 +151,13 @@ impl Walk {
         ensures { IfOk result (λ fault. (ps : List Part) → IsAt (context_in names.now) self.old ps → Walked fault (context_in names.now) self.new ps item.now) }
     {
         let led = match item.seen() {
-            Seen::One(instr) => return step(
-                &mut self.operands,
-                names,
-                self.labels.as_slice(),
-                instr,
-            ),
+            Seen::One(instr) => {
+                let labels = Labels {
+                    opens: self.opens.as_slice(),
+                    results: names.results,
+                };
+                return step(&mut self.operands, names, &labels, instr);
+            }
             Seen::Block(ty) => self.begin(Head::Block(ty))?,
             Seen::Loop(ty) => self.begin(Head::Loop(ty))?,
             Seen::If(ty) => self.begin(Head::If(ty))?,

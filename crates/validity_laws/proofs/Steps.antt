@@ -13,9 +13,9 @@ use Rattle.wasm_syntax.specs.Trees.{instruction_of}
 use Rattle.wasm_typing.specs.Typing.{Types, Context, InstructionTyped}
 use Rattle.wasm_typing.specs.faults.Open.{part_results, labels_of, before_part, PartsTyped}
 use Rattle.body_check.specs.words.Known.{Known}
-use Rattle.body_check.specs.declared.walk.Open.{Open}
+use Rattle.body_check.specs.declared.open.Open.{Open}
 use Rattle.body_check.specs.words.Operands.{StandsFor, Are, Exactly, Advances, Gave, lower}
-use Rattle.body_check.specs.words.Walks.{then_inner, MayEnd, IsOpen, IsOneSimple}
+use Rattle.body_check.specs.words.Walks.{then_inner, MayEnd, floor_under, IsOpen, IsOneSimple}
 use Rattle.body_check.proofs.WalkLemmas.{one_more, one_stuck, opened, floor_of, block_begins, no_block, side_turns, own_turns, no_turn, block_ends, no_end}
 use Rattle.validity_laws.proofs.Known.{Decided, Moves, Taking, stands, taking, giving}
 use Rattle.validity_laws.proofs.Instructions.{simple_moves}
@@ -81,7 +81,7 @@ block_passes c s os p around hd h (inr never) = inr (no_block c s os p around hd
 
 else_passes : (c : Context) (s : Known) (os : List Open) (p : Part) (around : List Part) → IsOpen c None s os (p ∷ around) → Decided (Are s (part_results c p.head)) → Passes c (turned p ∷ around)
 else_passes c s [] p around h (inl a) = inl (record { here = none s.below; opens = []; stand = own_turns c s (none s.below) p around a refl h })
-else_passes c s (o ∷ os) p around h (inl a) = inl (record { here = none s.below; opens = opened o.head true o.floor ∷ os; stand = side_turns c s (none s.below) o os p around a refl h })
+else_passes c s (o ∷ os) p around h (inl a) = inl (record { here = none s.below; opens = opened o.head true (floor_under o) ∷ os; stand = side_turns c s (none s.below) o os p around a refl h })
 else_passes c s os p around h (inr never) = inr (no_turn c s os p around never h)
 
 -- ---- an `end`
@@ -100,7 +100,7 @@ end_passes : (c : Context) (s : Known) (o : Open) (os : List Open) (p q : Part) 
     Decided (Are s (part_results c (Some o.head))) → Decided (MayEnd o.head o.turned) → Passes c (with_instr (closed_part p) q ∷ ps)
 end_passes c s o os p q ps h (inl a) (inl m) =
     let us = part_results c (Some o.head) in
-    let under = lower o.floor s.below in
+    let under = lower (floor_under o) s.below in
     let ks = map Some us ++ reverse under.here in
     let Q : (Types → Type 0) → Type 0 = λ N. Gave (Are under) N us in
     let n = operands ks under.below under.dead in

@@ -3,7 +3,7 @@ use Rattle.std.specs.Prelude.{◌≡◌, Bool, true, false, List, [], ◌∷◌,
 use Rattle.wasm_values.specs.declared.number.ValType.{ValType}
 use Rattle.wasm_typing.specs.Typing.{Types}
 use Rattle.body_check.specs.words.Known.{Known}
-use Rattle.body_check.specs.declared.operands.Floor.{Floor}
+use Rattle.body_check.specs.declared.open.Floor.{Floor}
 
 -- An operand whose type is unknown may have any.
 abbrev pub IsOfType : Option ValType → ValType → Type 0
@@ -27,7 +27,7 @@ StandsFor (k ∷ ks) dead (t ∷ ts) = IsOfType k t × StandsFor ks dead ts
 abbrev pub Are : Known → Types → Type 0
 Are s ts = StandsFor (reverse s.here) s.dead ts
 
--- Operands as they are when the innermost block is gone, above which those below it began at this floor.
+-- Operands as they are when the innermost block is gone, where those of the block around it began at this floor.
 abbrev pub lower : Floor → List (Option ValType) → Known
 lower f below = record { below = take f.base below; here = drop f.base below; dead = f.dead }
 

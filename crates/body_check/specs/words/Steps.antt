@@ -1,13 +1,16 @@
 -- Words for the walk over a body.
-use Rattle.std.specs.Prelude.{◌≡◌, ◌<◌, Bool, true, false, List, map, reverse, length, Option, Some, None, All, Result, IfOk}
+use Rattle.std.specs.Prelude.{◌≡◌, ◌<◌, Bool, true, false, List, [], ◌∷◌, ◌++◌, map, reverse, length, Option, Some, None, All, Result, IfOk}
 use Rattle.std.specs.Option.{unwrap_or}
-use Rattle.wasm_values.specs.declared.number.ValType.{ValType}
 use Rattle.wasm_values.specs.declared.error.OutOfMemory.{OutOfMemory}
 use Rattle.wasm_syntax.specs.Trees.{instruction_of}
 use Rattle.wasm_syntax.specs.declared.instr.Instr as source
 use Rattle.wasm_syntax.specs.declared.instr.Instr.{Instr}
 use Rattle.wasm_typing.specs.declared.fault.ValidWord.{ValidWord}
 use Rattle.wasm_typing.specs.declared.fault.ValidWord.TheVariants as word
+use Rattle.wasm_syntax.specs.declared.flat.Head.{Head}
+use Rattle.wasm_syntax.specs.declared.flat.Head.TheVariants as head
+use Rattle.body_check.specs.declared.open.Open.{Open}
+use Rattle.body_check.specs.declared.open.Labels.{Labels}
 use Rattle.body_check.specs.declared.names.Names.{Names}
 use Rattle.wasm_typing.specs.Typing.{Types, Context, types_of, InstructionTyped}
 use Rattle.wasm_typing.specs.Valid.{type_at, func_types_of, context_of}
@@ -26,9 +29,15 @@ pub record AreNames (n : Names) : Type 0 where
   pub results : types_of n.results ≡ reverse (type_at n.whole.now.types n.func.now.ty).results
   pub known : All (λ t. t < length n.whole.now.types) (func_types_of n.whole.now)
 
--- Labels, the function's own first, as what a branch to each takes, the innermost first.
-abbrev pub labels_in : List (Option ValType) → List Types
-labels_in labels = map types_of (reverse labels)
+-- What a branch to the label of a block with this head takes.
+abbrev pub taken_by_branch : Head → Types
+taken_by_branch (head.Block ty) = types_of ty
+taken_by_branch (head.Loop ty) = []
+taken_by_branch (head.If ty) = types_of ty
+
+-- What a branch to each label takes, the innermost first, the function's own last.
+abbrev pub labels_in : Labels → List Types
+labels_in labels = map (λ (o : Open). taken_by_branch o.head) (reverse labels.opens.now) ++ types_of labels.results ∷ []
 
 -- The word of the first condition that fails, or else `stack`.
 abbrev pub word_of : List Condition → ValidWord

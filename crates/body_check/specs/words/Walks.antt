@@ -9,7 +9,8 @@ use Rattle.wasm_syntax.specs.Trees.{sequence_of, instruction_of}
 use Rattle.wasm_syntax.specs.Parts.{Part, begun, with_instr, turned, closed_part}
 use Rattle.wasm_typing.specs.declared.fault.ValidWord.{ValidWord}
 use Rattle.wasm_values.specs.declared.number.ValType.{ValType}
-use Rattle.body_check.specs.declared.walk.Open.{Open}
+use Rattle.body_check.specs.declared.open.Open.{Open}
+use Rattle.body_check.specs.declared.open.Floor.{Floor}
 use Rattle.body_check.specs.declared.walk.Walk.{Walk}
 use Rattle.wasm_typing.specs.Typing.{Context, types_of, SequenceTyped}
 use Rattle.wasm_typing.specs.faults.Open.{labels_of, before_part, FirstSideTyped, PartsTyped}
@@ -17,7 +18,6 @@ use Rattle.wasm_typing.specs.Valid.{InstructionInRange}
 use Rattle.wasm_typing.specs.faults.Faults.{item_word}
 use Rattle.body_check.specs.words.Known.{Known}
 use Rattle.body_check.specs.words.Operands.{Are, Exactly, lower}
-use Rattle.body_check.specs.words.Steps.{labels_in}
 
 -- Open parts, the innermost first, after one more item.
 abbrev pub then_inner : List Part → Flat → List Part
@@ -38,21 +38,24 @@ IsHere c inner s p around =
     Exactly (Are s) (λ below. SequenceTyped c (labels_of c (p ∷ around)) (sequence_of p.instrs) [] (before_part inner below))
     × FirstSideTyped c (labels_of c (p ∷ around)) p.head p.first
 
+-- Where the operands of the block around an open one begin.
+abbrev pub floor_under : Open → Floor
+floor_under o = record { base = o.base; dead = o.dead }
+
 -- The blocks that are open around a part, over the operands below it, by the rest of them.
 abbrev pub IsAround : Part → List (Option ValType) → List Open → List Part → (Open → List Open → Type 0) → Type 0
 IsAround p below [] around rest = (p.head ≡ None) × (around ≡ [])
-IsAround p below (o ∷ os) around rest = (p.head ≡ Some o.head) × (o.turned ≡ is_some p.first) × (o.floor.base ≤ length below) × rest o os
+IsAround p below (o ∷ os) around rest = (p.head ≡ Some o.head) × (o.turned ≡ is_some p.first) × (o.base ≤ length below) × rest o os
 
 -- Operands and open blocks, the innermost first, stand for open parts.
 abbrev pub IsOpen : Context → (inner : Option Head) → Known → List Open → List Part → Type 0
 IsOpen c inner s os [] = ⊥
 IsOpen c inner s os (p ∷ around) =
-    IsHere c inner s p around × IsAround p s.below os around (λ o os'. IsOpen c p.head (lower o.floor s.below) os' around)
+    IsHere c inner s p around × IsAround p s.below os around (λ o os'. IsOpen c p.head (lower (floor_under o) s.below) os' around)
 
 -- A walk stands at these open parts.
 pub record IsAt (c : Context) (w : Walk) (ps : List Part) : Type 0 where
   pub open_ : IsOpen c None w.operands (reverse w.opens.items) ps
-  pub labels : labels_in w.labels.items ≡ labels_of c ps
 
 -- An item is no fault, and the walk goes on behind it; or the parts have no typing through it, with its word.
 abbrev pub Walked : Option ValidWord → Context → Walk → List Part → Flat → Type 0

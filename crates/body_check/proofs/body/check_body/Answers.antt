@@ -9,7 +9,7 @@ use Rattle.body_check.proofs.BodyLemmas.{simple_at, begun_at, further, fault_at,
 use Rattle.body_check.proofs.body.check_body.Goals as goal
 
 pub loop-n-init : goal.loop-n-init
-loop-n-init c = begun_at (context_in c.args.names.now) c.in_ok-walk.walk c.args.names.now.func.now.body (c.in_ok-walk.ensures (context_in c.args.names.now) c.requires.names.results)
+loop-n-init c = begun_at (context_in c.args.names.now) c.restart.new.self c.args.names.now.func.now.body (c.restart.ensures (context_in c.args.names.now))
 
 pub advance-requires-clause-simple : goal.advance-requires-clause-simple
 advance-requires-clause-simple c = simple_at c.args.names.now.func.now.body c.loop-n.n c.at.result.now c.at.ensures.item
@@ -38,8 +38,8 @@ returns-then-finish c =
     (let h = c.loop-n-test.false in let m = c.loop-n.auto.n-end in let same = c.requires.places in let some = some_items body in omega (arith, h, m, same, some))
     c.loop-n.invariant.0 (subst A c.requires.names.results (c.if-finish.ensures.yes refl))
 
-pub returns : goal.returns
-returns c =
+pub returns-else-finish : goal.returns-else-finish
+returns-else-finish c =
     let body = c.args.names.now.func.now.body in
     let ctx = context_in c.args.names.now in
     let A : Types → Type 0 = λ ts. Are c.loop-n.walk.operands ts in

@@ -2,7 +2,7 @@ use Rattle.std.proofs.Common.{refl, sym, subst}
 use Rattle.body_check.specs.declared.walk.Walk.{Walk}
 use Rattle.wasm_typing.specs.Typing.{Types}
 use Rattle.body_check.specs.words.Operands.{Are, Gave}
-use Rattle.body_check.proofs.WalkSteps.{ends, ends_not, labels_popped}
+use Rattle.body_check.proofs.WalkSteps.{ends, ends_not}
 use Rattle.body_check.proofs.walk.Walk.end.Goals as goal
 
 pub returns-then-not-may_end : goal.returns-then-not-may_end
@@ -16,10 +16,9 @@ returns-then-not-finish c =
 pub returns-in_ok-give_with-in-Some : goal.returns-in_ok-give_with-in-Some
 returns-in_ok-give_with-in-Some c =
     λ c2 ps h.
-    let after : Walk = record { operands = c.give_with.new.self; opens = c.pop.new.self; labels = c.pop-in-Some.new.self } in
+    let after : Walk = record { operands = c.give_with.new.self; opens = c.pop.new.self } in
     let A : Types → Type 0 = λ ts. Are c.args.self.now.operands ts in
     let G : Types → Type 0 = λ ts. Gave (Are c.end.new.self) (Are c.give_with.new.self) ts in
     ends c2 c.args.self.now after c.finish.new.self c.end.new.self c.in-Some.open c.pop.new.self.items ps c.in-Some.ensures.items refl
-    (labels_popped c.args.self.now.labels.items c.pop-in-Some.new.self.items c.pop-in-Some.result c.pop-in-Some.ensures.items c.pop-in-Some.ensures.variant.1)
     (subst A (c.results_of.ensures c2) (c.if-not-finish.ensures.yes refl)) (c.if-not-may_end.ensures.yes refl)
     c.if-not-finish.ensures.below c.end.ensures c.in_ok-give_with-in-Some.ensures.below (subst G (c.results_of-in-Some.ensures c2) c.in_ok-give_with-in-Some.ensures.gave) h

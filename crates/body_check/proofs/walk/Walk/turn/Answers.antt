@@ -13,8 +13,8 @@ returns-then-not-finish c =
 pub returns-in_ok-push_open-in-Some : goal.returns-in_ok-push_open-in-Some
 returns-in_ok-push_open-in-Some c =
     λ c2 ps e h.
-    let after : Walk = record { operands = c.turn_side.new.self; opens = c.push_open.new.opens; labels = c.args.self.now.labels } in
+    let after : Walk = record { operands = c.turn_side.new.self; opens = c.push_open.new.opens } in
     let A : Types → Type 0 = λ ts. Are c.args.self.now.operands ts in
     let T : List (Option ValType) → Type 0 = λ b. c.turn_side.new.self ≡ record { below = b; here = []; dead = false } in
-    turns c2 c.args.self.now after c.in-Some.open c.pop.new.self.items ps c.in-Some.ensures.items c.in_ok-push_open-in-Some.ensures refl
+    turns c2 c.args.self.now after c.in-Some.open c.pop.new.self.items ps c.in-Some.ensures.items c.in_ok-push_open-in-Some.ensures
     (subst A (c.results_of.ensures c2) (c.if-not-finish.ensures.yes refl)) (subst T c.if-not-finish.ensures.below c.turn_side.ensures) h
