@@ -1,5 +1,5 @@
 -- The formulas of a step are its own and those of its sub-derivations.
-use Rattle.std.proofs.Common.{◌≡◌, Bool, ◌&&◌, IsTrue, List, [], ◌∷◌, map, refl, ap, sym, ◌∙◌}
+use Rattle.std.proofs.Common.{◌≡◌, Bool, ◌&&◌, IsTrue, List, [], ◌∷◌, map, refl, ap, ◌∙◌}
 use Rattle.std.specs.List.{list_all}
 use Rattle.term_trees.proofs.Truths.{and_true}
 use Rattle.bitvector_rules.specs.declared.step.Step.{Step, out-Step, fold_out-Step}

@@ -1,11 +1,9 @@
 -- What a term or a formula becomes has its value, where what is replaced and what replaces it have one value.
-use Rattle.std.proofs.Common.{◌≡◌, ℤ, ◌+ℤ◌, ◌-ℤ◌, ◌*ℤ◌, Bool, true, false, not, ◌&&◌, ◌||◌, ◌==◌, IsTrue, refl, sym, ap, ◌∙◌, true≢false}
+use Rattle.std.proofs.Common.{◌≡◌, ℤ, ◌+ℤ◌, ◌-ℤ◌, ◌*ℤ◌, Bool, true, false, not, ◌&&◌, ◌||◌, IsTrue, refl, sym, ap, ◌∙◌, true≢false}
 use Rattle.std.specs.Prelude.{int_lt, int_le}
 use Rattle.std.specs.Ordering.{int_eq}
 use Rattle.std.proofs.lemmas.Bool.{eqb-true}
 use Rattle.std.proofs.lemmas.Bool.Decides.{Decides-int_eq}
-use Rattle.wasm_values.specs.contracts.number.NumOpPartialEq.TheImpl as operator
-use Rattle.term_trees.specs.contracts.term.PlacePartialEq.TheImpl as place
 use Rattle.term_trees.specs.declared.term.Term.{Term, roll-Term, out-Term, map-Term, fold-roll-Term, fold_out-Term}
 use Rattle.term_trees.specs.declared.term.Term.TheOpen.{Term-F, Num, Var, Own, At, Add, Sub, Mul, One, Two, Low, Sext, Sgn}
 use Rattle.term_trees.specs.declared.term.Formula.{Formula, out-Formula, map-Formula, fold-roll-Formula, fold_out-Formula}
@@ -13,42 +11,13 @@ use Rattle.term_trees.specs.declared.term.Formula.TheOpen.{Formula-F}
 use Rattle.term_trees.specs.declared.term.Formula.TheOpen as form
 use Rattle.term_trees.specs.Meaning.{Numbers, value_here, value, holds_here, holds}
 use Rattle.term_trees.specs.Same.{passes, same_here, same}
-use Rattle.term_trees.specs.Views.{num_here, var_here, own_here, place_here, sum_here, difference_here, product_here, one_here, two_here, low_here, sext_here, sgn_here, true_here, false_here, eq_here, le_here, lt_here, not_here, and_here, or_here, imp_here, eq_of}
+use Rattle.term_trees.specs.Views.{true_here, false_here, eq_here, le_here, lt_here, not_here, and_here, or_here, imp_here, eq_of}
 use Rattle.term_trees.proofs.Equalities.{exact_place, exact_num_op}
-use Rattle.term_trees.proofs.Sameness.{induct, induct_formula, map_map, map_map_form, same-exact}
+use Rattle.term_trees.proofs.Sameness.{layer_test, here-test, induct, induct_formula, map_map, map_map_form, same-exact}
 use Rattle.term_trees.proofs.Truths.{both}
 use Rattle.equality_rules.specs.Rewrite.{becomes, formula_becomes_here, formula_becomes, is_rewrite}
 use Rattle.equality_rules.proofs.Becomes.{becomes-roll}
 use Rattle.equality_rules.proofs.Forms.{passed, holds-eq}
-
--- the test at a layer, by the layer of the other tree
-abbrev layer_test : Term-F (Term → Bool) → Term-F Term → Bool
-layer_test (Num n) m = passes (num_here m) (λ k. int_eq n k)
-layer_test (Var k) m = passes (var_here m) (λ j. k == j)
-layer_test (Own k) m = passes (own_here m) (λ j. k == j)
-layer_test (At p) m = passes (place_here m) (λ q. (place.ghosts).eq p q)
-layer_test (Add a b) m = passes (sum_here m) (λ p. a p.0 && b p.1)
-layer_test (Sub a b) m = passes (difference_here m) (λ p. a p.0 && b p.1)
-layer_test (Mul a b) m = passes (product_here m) (λ p. a p.0 && b p.1)
-layer_test (One op a) m = passes (one_here m) (λ p. (operator.ghosts).eq op p.0 && a p.1)
-layer_test (Two op a b) m = passes (two_here m) (λ p. (operator.ghosts).eq op p.0 && (a p.1 && b p.2))
-layer_test (Low k a) m = passes (low_here m) (λ p. k == p.0 && a p.1)
-layer_test (Sext k n a) m = passes (sext_here m) (λ p. k == p.0 && (n == p.1 && a p.2))
-layer_test (Sgn n a) m = passes (sgn_here m) (λ p. n == p.0 && a p.1)
-
-here-test : (l : Term-F (Term → Bool)) (u : Term) → same_here l u ≡ layer_test l (out-Term u)
-here-test (Num n) u = refl
-here-test (Var k) u = refl
-here-test (Own k) u = refl
-here-test (At p) u = refl
-here-test (Add a b) u = refl
-here-test (Sub a b) u = refl
-here-test (Mul a b) u = refl
-here-test (One op a) u = refl
-here-test (Two op a b) u = refl
-here-test (Low k a) u = refl
-here-test (Sext k n a) u = refl
-here-test (Sgn n a) u = refl
 
 either : (a b : Bool) (Q : Type 0) → (a || b) ≡ true → (a ≡ true → Q) → (b ≡ true → Q) → Q
 either true b Q h left right = left refl

@@ -5,7 +5,6 @@ use Rattle.wasm_values.specs.declared.number.NumOp.{NumOp}
 use Rattle.wasm_values.specs.contracts.number.NumOpPartialEq.TheImpl as operator
 use Rattle.term_trees.specs.declared.term.Term.{Term, fold-roll-Term}
 use Rattle.term_trees.specs.declared.term.Term.TheOpen as layer
-use Rattle.term_trees.specs.declared.term.Term.TheOpen.{Term-F}
 use Rattle.term_trees.specs.declared.term.Term.TheVariants as term
 use Rattle.term_trees.specs.declared.term.Formula.{Formula, fold-roll-Formula}
 use Rattle.term_trees.specs.declared.term.Formula.TheOpen as open_form

@@ -2,7 +2,7 @@
 use Rattle.std.proofs.Common.{◌≡◌, ℕ, ◌^◌, ℤ, pos, ◌+ℤ◌, ◌-ℤ◌, ◌*ℤ◌, ◌≤ℤ◌, ◌<ℤ◌, int_lt, int_le, Bool, true, false, not, ◌&&◌, ◌||◌, T, IsTrue, refl, sym, ap, subst, ◌∙◌, true≢false}
 use Rattle.std.specs.Prelude.{unwrap_or}
 use Rattle.std.specs.Ordering.{int_eq}
-use Rattle.std.specs.Int.Signed.{le_z, lt_z, le_z_yes, lt_z_yes}
+use Rattle.std.specs.Int.Signed.{le_z_yes, lt_z_yes}
 use Rattle.std.proofs.lemmas.Float.{T_from_true}
 use Rattle.std.proofs.lemmas.Bool.Decides.{Decides-int_eq}
 use Rattle.wasm_values.specs.declared.number.ValType.{ValType}

@@ -8,7 +8,7 @@ ghost use Rattle.integer_rules.specs.words.Claims.{side_tree, claim_formula, Sid
 ghost use Rattle.integer_rules.specs.Fits.{fits_zero, fits_compared, fits_test, fits_tests};
 
 use crate::claim::{Claim, Side, are_claims, is_choice};
-use crate::numbers::{bits, greatest, operator};
+use crate::numbers::{greatest, operator};
 use crate::read::{applied, sized, test_in};
 use term_logic::{IdFormula, TermId, TermTable};
 use wasm_values::IntOp;
@@ -124,8 +124,8 @@ pub(crate) fn is_tests(table: &TermTable, premises: &[&IdFormula], conclusion: &
     let Some((width, op, a, b)) = applied(table, test) else {
         return false;
     };
-    let first = Side::Sgn(bits(width), a);
-    let second = Side::Sgn(bits(width), b);
+    let first = Side::Sgn(width.bits(), a);
+    let second = Side::Sgn(width.bits(), b);
     let Some(claim) = signed_claim(table, op, first, second) else {
         return false;
     };

@@ -16,16 +16,6 @@ pub(crate) fn operator(width: ValType, op: IntOp) -> NumOp
     }
 }
 
-/// The number of bits of a width.
-pub(crate) fn bits(width: ValType) -> u32
-    ensures { result ≡ width_of width }
-{
-    match width {
-        ValType::I32 => 32,
-        ValType::I64 => 64,
-    }
-}
-
 /// The width of so many bits.
 pub(crate) fn width_with(bits: u32) -> Option<ValType>
     ensures { result ≡ width_with bits }
@@ -127,7 +117,7 @@ fn sized_limit(width: ValType, op: IntOp) -> i128
         | IntOp::LeU
         | IntOp::GeS
         | IntOp::GeU => 1,
-        IntOp::Clz | IntOp::Ctz | IntOp::Popcnt => i128::from(bits(width)),
+        IntOp::Clz | IntOp::Ctz | IntOp::Popcnt => i128::from(width.bits()),
         _ => greatest(width),
     }
 }

@@ -7,7 +7,7 @@ ghost use Rattle.integer_rules.specs.Fits.{fits_row, fits_range, fits_sgn, fits_
 
 use crate::claim::{Claim, Side, are_claims, is_both, is_claim, is_split};
 use crate::numbers::{
-    bits, digits, greatest, greatest_signed, half, modulus, operator, power, shift_as, width_with,
+    digits, greatest, greatest_signed, half, modulus, operator, power, shift_as, width_with,
 };
 use crate::read::{applied, equated, first_of, last_of, left_of, limit_of, right_of};
 use term_logic::{IdFormula, TermId, TermTable};
@@ -57,12 +57,12 @@ pub(crate) fn is_sgn(table: &TermTable, premises: &[&IdFormula], conclusion: &Id
     ];
     let low = (
         Claim::Le(Side::Id(a), Side::Number(greatest_signed(width))),
-        Claim::Eq(Side::Sgn(bits(width), a), Side::Id(a)),
+        Claim::Eq(Side::Sgn(width.bits(), a), Side::Id(a)),
     );
     let high = (
         Claim::Le(Side::Number(half(width)), Side::Id(a)),
         Claim::Eq(
-            Side::Sgn(bits(width), a),
+            Side::Sgn(width.bits(), a),
             Side::LessNumber(a, modulus(width)),
         ),
     );
@@ -125,7 +125,7 @@ fn is_some_mask(
     requires conclusion { formula_bound conclusion.now ≤ length table.now }
     ensures { result ≡ fits_some_mask width (tree_at table.now a) (map (λ f. formula_of table.now f.now) premises.now) (formula_of table.now conclusion.now) }
 {
-    let count = bits(width);
+    let count = width.bits();
     for k in 1..count {
         if is_masked(table, width, a, k, premises, conclusion) {
             return true;

@@ -1,5 +1,5 @@
 -- Functions of a typed store can be entered.
-use Rattle.std.proofs.Common.{◌≡◌, ℕ, ◌<◌, Some, length, slice_get, ap, ◌∙◌, All}
+use Rattle.std.proofs.Common.{◌≡◌, ℕ, ◌<◌, Some, length, slice_get, ap, ◌∙◌}
 use Rattle.wasm_store.specs.declared.store.FuncInst.{FuncInst}
 use Rattle.wasm_store.specs.declared.store.FuncInst.TheVariants.{Code, Host}
 use Rattle.wasm_store.specs.declared.store.Store.{Store}

@@ -2,7 +2,6 @@
 
 ghost use Rattle.std.specs.Prelude.{◌≡◌, ℕ, ◌+◌, ◌<◌, ◌&&◌, nat_le, ◌++◌, length, map, slice_get, slice_index, All};
 ghost use Rattle.std.specs.List.{range_with_len, list_all};
-ghost use Rattle.wasm_values.specs.Operators.{number_of};
 ghost use Rattle.wasm_typing.specs.Valid.{ElemValid, SegmentValid};
 ghost use Rattle.wasm_sessions.specs.Instantiation.{made_table, made_memory, has_entries, has_bytes};
 ghost use Rattle.module_instances.specs.words.Building.{IsBefore, elem_fits_before, segment_fits_before};
@@ -11,16 +10,6 @@ use crate::constants::value_with;
 use crate::numbering::Numbering;
 use wasm_store::{GlobalInst, MemInst, Store, TableInst};
 use wasm_syntax::{Elem, Limits, Module, Segment};
-use wasm_values::Val;
-
-pub(crate) fn number_of(value: Val) -> u64
-    ensures { result ≡ number_of value }
-{
-    match value {
-        Val::I32(n) => n as u64,
-        Val::I64(n) => n,
-    }
-}
 
 /// Whether so many items lie in so large a table or memory, from a place on.
 fn fits(at: u64, count: usize, size: usize) -> bool
@@ -81,7 +70,7 @@ fn elem_fits(
         imported.globals.as_slice(),
         elem.offset.as_slice(),
     );
-    fits(number_of(offset), elem.funcs.len(), size)
+    fits(offset.number(), elem.funcs.len(), size)
 }
 
 /// Whether a data segment would lie in its memory.
@@ -108,7 +97,7 @@ fn segment_fits(
         imported.globals.as_slice(),
         segment.offset.as_slice(),
     );
-    fits(number_of(offset), segment.bytes.len(), size)
+    fits(offset.number(), segment.bytes.len(), size)
 }
 
 fn elems_fit(store: &Store, module: &Module, imported: &Numbering, globals: &[GlobalInst]) -> bool

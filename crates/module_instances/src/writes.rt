@@ -9,7 +9,6 @@ ghost use Rattle.module_instances.specs.words.Building.{HasConstOffset, elem_fit
 
 use crate::constants::value_of;
 use crate::instances::address_of;
-use crate::segments::number_of;
 use std::{alloc, mem};
 use wasm_store::{GlobalInst, Instance, MemInst, TableInst};
 use wasm_syntax::{Elem, Segment};
@@ -55,7 +54,7 @@ fn write_elem(
     let table = &mut all[address as usize];
     write_entries(
         &mut table.entries,
-        number_of(offset) as usize,
+        offset.number() as usize,
         &instance.funcs,
         elem.funcs.as_slice(),
     );
@@ -84,7 +83,7 @@ fn write_segment(
     let memory = &mut all[address as usize];
     write_bytes(
         &mut memory.bytes,
-        number_of(offset) as usize,
+        offset.number() as usize,
         segment.bytes.as_slice(),
     );
     *memories = List::from_vec(all);

@@ -2,11 +2,12 @@
 
 ghost use Rattle.std.specs.Prelude.{◌≡◌, ◌++◌, OnOk};
 ghost use Rattle.wasm_syntax.specs.Items.{instr_seen};
-ghost use Rattle.module_listing.specs.Names.{plain_name, int_name, num_name, const_name, load_name, store_name, instr_name};
+ghost use Rattle.wasm_values.specs.Names.{num_name};
+ghost use Rattle.module_listing.specs.Names.{plain_name, const_name, load_name, store_name, instr_name};
 
 use crate::text::write_text;
 use wasm_syntax::{LoadOp, Plain, Simple, StoreOp};
-use wasm_values::{Bytes, IntOp, NumOp, OutOfMemory, Val};
+use wasm_values::{Bytes, NumOp, OutOfMemory, Val};
 
 fn plain_name(plain: Plain) -> &'static str
     ensures { result.now ≡ plain_name plain }
@@ -19,42 +20,6 @@ fn plain_name(plain: Plain) -> &'static str
         Plain::Select => "select",
         Plain::MemorySize => "memory.size",
         Plain::MemoryGrow => "memory.grow",
-    }
-}
-
-fn int_name(op: IntOp) -> &'static str
-    ensures { result.now ≡ int_name op }
-{
-    match op {
-        IntOp::Eqz => "eqz",
-        IntOp::Eq => "eq",
-        IntOp::Ne => "ne",
-        IntOp::LtS => "lt_s",
-        IntOp::LtU => "lt_u",
-        IntOp::GtS => "gt_s",
-        IntOp::GtU => "gt_u",
-        IntOp::LeS => "le_s",
-        IntOp::LeU => "le_u",
-        IntOp::GeS => "ge_s",
-        IntOp::GeU => "ge_u",
-        IntOp::Clz => "clz",
-        IntOp::Ctz => "ctz",
-        IntOp::Popcnt => "popcnt",
-        IntOp::Add => "add",
-        IntOp::Sub => "sub",
-        IntOp::Mul => "mul",
-        IntOp::DivS => "div_s",
-        IntOp::DivU => "div_u",
-        IntOp::RemS => "rem_s",
-        IntOp::RemU => "rem_u",
-        IntOp::And => "and",
-        IntOp::Or => "or",
-        IntOp::Xor => "xor",
-        IntOp::Shl => "shl",
-        IntOp::ShrS => "shr_s",
-        IntOp::ShrU => "shr_u",
-        IntOp::Rotl => "rotl",
-        IntOp::Rotr => "rotr",
     }
 }
 
@@ -103,19 +68,9 @@ fn const_name(value: Val) -> &'static str
 fn write_num_name(out: &mut Bytes, op: NumOp) -> Result<(), OutOfMemory>
     ensures { OnOk result (out.new ≡ out.old ++ num_name op) }
 {
-    match op {
-        NumOp::W32(op) => {
-            write_text(out, "i32.")?;
-            write_text(out, int_name(op))
-        }
-        NumOp::W64(op) => {
-            write_text(out, "i64.")?;
-            write_text(out, int_name(op))
-        }
-        NumOp::Wrap => write_text(out, "i32.wrap_i64"),
-        NumOp::ExtendS => write_text(out, "i64.extend_i32_s"),
-        NumOp::ExtendU => write_text(out, "i64.extend_i32_u"),
-    }
+    let (width, name) = op.name();
+    write_text(out, width)?;
+    write_text(out, name)
 }
 
 /// Adds the name of an instruction.

@@ -1,7 +1,6 @@
 -- When notes and all that they hold are well formed: their terms and widths are. A text spells no others.
 use Rattle.std.specs.Prelude.{ℕ, ◌==◌, Bool, true, ◌&&◌, ◌||◌, Option, Some, None}
 use Rattle.std.specs.List.{list_all}
-use Rattle.term_trees.specs.declared.term.Term.{Term}
 use Rattle.term_trees.specs.Terms.{well_formed}
 use Rattle.term_trees.specs.Formulas.{well_formed_formula}
 use Rattle.bitvector_rules.specs.declared.step.Step.{Step, Step-F, fold-Step}

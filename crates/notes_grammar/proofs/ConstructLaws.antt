@@ -18,9 +18,9 @@ use Rattle.sexp_text.specs.declared.fault.TextWord.TheVariants as fault
 use Rattle.sexp_text.specs.Reading.{◌>>=◌, refused}
 use Rattle.notes_grammar.specs.declared.head.Head.{Head}
 use Rattle.notes_grammar.specs.declared.head.Head.TheVariants as head
-use Rattle.notes_grammar.specs.Parts.{Part, Parts, Number, Name, Quote, Branch, Nil, Cons}
+use Rattle.notes_grammar.specs.Parts.{Part, Parts, Name}
 use Rattle.notes_grammar.specs.Parts as part
-use Rattle.notes_grammar.specs.Shapes.{Shape, Setting, listed, where_so, is_among, chunk as chunk_shape, assertion as assertion_shape, with as with_shape, heap_move as heap_shape, move as move_shape, take as take_shape}
+use Rattle.notes_grammar.specs.Shapes.{Shape, Setting, listed, where_so, is_among, chunk as chunk_shape, assertion as assertion_shape, with as with_shape, heap_move as heap_shape}
 use Rattle.notes_grammar.specs.Shapes as shape
 use Rattle.notes_grammar.specs.Words.{head_name}
 use Rattle.notes_grammar.specs.Reading.{field, list_of, small, width, Headed, headed, tagged, place_in, term_in, formula_in, steps_in, row_list, cell_list, region_list, chunk_at, chunk_in, assertion_in, with_list, with_in, one_small, three_small, small_term_small, small_term_two, enrow_list, rows_list, heap_at, name_in, known_name, have_list, put_list, each_list, move_at}

@@ -8,7 +8,7 @@ use Rattle.term_trees.specs.declared.term.Place.TheVariants as places
 use Rattle.notes.specs.WellFormed.{is_width}
 use Rattle.notes_grammar.specs.declared.head.Head.{Head}
 use Rattle.notes_grammar.specs.declared.head.Head.TheVariants as head
-use Rattle.notes_grammar.specs.Parts.{Part, Parts, Number, Name, Quote, Branch, Nil, Cons, tree_of}
+use Rattle.notes_grammar.specs.Parts.{Part, Number, Name, Quote, Branch}
 use Rattle.notes_grammar.specs.Parts as part
 use Rattle.notes_grammar.specs.Shapes.{Shape, listed, where_so, is_small, begins_name}
 use Rattle.notes_grammar.specs.Shapes as shape

@@ -14,7 +14,7 @@ use Rattle.sexp_text.specs.Reading.{◌>>=◌}
 use Rattle.notes_grammar.specs.declared.head.Head.{Head}
 use Rattle.notes_grammar.specs.declared.head.Head.TheVariants as head
 use Rattle.notes_grammar.specs.Parts.{Part, Parts, Nil, Cons}
-use Rattle.notes_grammar.specs.Shapes.{Shape, Setting, listed, where_so, is_among, chunk as chunk_shape, assertion as assertion_shape, with as with_shape, heap_move as heap_shape, move as move_shape, take as take_shape, use_of as use_shape, note as note_shape}
+use Rattle.notes_grammar.specs.Shapes.{Shape, Setting, listed, where_so, is_among, assertion as assertion_shape, with as with_shape, move as move_shape, take as take_shape}
 use Rattle.notes_grammar.specs.Shapes as shape
 use Rattle.notes_grammar.specs.Words.{head_name}
 use Rattle.notes_grammar.specs.Reading.{ended, field, list_of, small, Headed, headed, tagged, place_in, term_in, assertion_in, with_in, heap_at, known_name, each_list, lemma_use, move_at, move_in, take_list, take_in, both_list, loop_list, skip_list}

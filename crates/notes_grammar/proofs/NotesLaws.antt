@@ -18,7 +18,7 @@ use Rattle.sexp_text.proofs.CompleteLemmas.{read-spelled}
 use Rattle.sexp_text.proofs.TextLaws.{one_value}
 use Rattle.sexp_text.proofs.WordLemmas.{value_or_fault}
 use Rattle.notes.specs.declared.outline.Notes.{Notes}
-use Rattle.notes_grammar.specs.Parts.{Part, Parts, Number, Name, Quote, Branch, Nil, Cons, part_at, parts_in, part_of}
+use Rattle.notes_grammar.specs.Parts.{Part, Number, Name, Branch, Cons, part_at, parts_in, part_of}
 use Rattle.notes_grammar.specs.Parts as part
 use Rattle.notes_grammar.specs.Shapes.{Shape, listed, where_so, rest_of, first_notes, second_notes}
 use Rattle.notes_grammar.specs.Shapes as shape

@@ -16,7 +16,7 @@ use Rattle.sexp_text.specs.Printing as tree
 use Rattle.sexp_text.specs.Reading.{◌>>=◌, refused}
 use Rattle.notes_grammar.specs.Parts.{Part, Parts, Number, Name, Quote, Branch, Nil, Cons}
 use Rattle.notes_grammar.specs.Parts as part
-use Rattle.notes_grammar.specs.Shapes.{Shape, Setting, listed, where_so, is_among, are_new, names_of, rest_of, chunk as chunk_shape, assertion as assertion_shape, with as with_shape, move as move_shape, take as take_shape, note as note_shape, contract_of as contract_shape, function as function_shape, after_of as after_shape, initial as initial_shape, lemma as lemma_shape, first_notes, second_notes}
+use Rattle.notes_grammar.specs.Shapes.{Shape, Setting, listed, where_so, is_among, are_new, names_of, rest_of, chunk as chunk_shape, assertion as assertion_shape, with as with_shape, move as move_shape, note as note_shape, contract_of as contract_shape, function as function_shape, after_of as after_shape, initial as initial_shape, lemma as lemma_shape, first_notes, second_notes}
 use Rattle.notes_grammar.specs.Shapes as shape
 use Rattle.notes_grammar.specs.Words.{same_word}
 use Rattle.notes_grammar.specs.Reading.{form, ended, field, all_of, list_of, small, tagged, is_tagged, formula_in, steps_in, chunk_in, assertion_in, with_in, name_in, new_name, move_in, take_in, note_in, side_in, contract_in, contract_first, function_in, after_list, initial_in, lemma_in, lemmas_first, version, lemmas_of, notes_rest, notes_in}

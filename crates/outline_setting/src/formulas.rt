@@ -2,12 +2,11 @@
 
 ghost use Rattle.std.specs.Prelude.{◌≡◌};
 ghost use Rattle.std.specs.Option.{option_map};
-ghost use Rattle.term_trees.specs.Same.{passes, same_formula};
+ghost use Rattle.term_trees.specs.Same.{same_formula};
 ghost use Rattle.term_trees.specs.Views.{is_true, is_false, eq_of, le_of, lt_of, not_of, and_of, or_of, imp_of};
 ghost use Rattle.outline_setting.specs.words.Trees.{same_formulas};
 
-use crate::same::same_parts;
-use term_trees::{Formula, Term};
+use term_trees::{Formula, Term, same_parts};
 
 /// The sides of an equation.
 fn eq_of(f: &Formula) -> Option<(&Term, &Term)>

@@ -12,10 +12,9 @@ ghost use Rattle.outline_setting.specs.words.Judging.{judged_next, judged_step, 
 ghost use Rattle.outline_setting.specs.Reasons.{refusal_for};
 
 use crate::formulas::same_formula;
-use crate::same::same_term;
 use crate::setting::Setting;
 use notes::{Assertion, Chunk, Contract, Reason};
-use term_trees::Formula;
+use term_trees::{Formula, same_term};
 use wasm_store::is_same_func_type;
 use wasm_syntax::{Elem, FuncType};
 

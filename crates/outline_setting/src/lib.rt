@@ -5,7 +5,6 @@ mod formulas;
 mod judging;
 mod noted;
 mod privates;
-mod same;
 mod setting;
 
 pub use judging::{judged, same_contract};

@@ -28,7 +28,7 @@ use Rattle.sexp_text.proofs.ByteLemmas.{word_end-le, begins_escape-hex}
 use Rattle.sexp_text.proofs.CompleteLemmas.{read-spelled}
 use Rattle.sexp_text.proofs.FaultLemmas.{begins_again, word_end_stays, run_fault, end_fault}
 use Rattle.sexp_text.proofs.GoOnLemmas as known
-use Rattle.sexp_text.proofs.GoOnLemmas.{Reach, reach_more, reach_read, Real, closes, closers, close_real, InRun, Known, Holds, step_known, run_text, added_inside, Errs, cond_errs, bind_errs, errs_at, step_between, step_string, step_escape, step_digit, comment_fault, front_before, word_front, run_front}
+use Rattle.sexp_text.proofs.GoOnLemmas.{Reach, reach_more, reach_read, Real, closes, closers, close_real, InRun, Known, Holds, step_known, run_text, added_inside, Errs, bind_errs, errs_at, step_between, step_string, step_escape, step_digit, comment_fault, front_before, word_front}
 use Rattle.sexp_text.proofs.NumberLemmas.{writes_number, word_writes, word_longest}
 use Rattle.sexp_text.proofs.PutLemmas.{bound}
 use Rattle.sexp_text.proofs.ReadLemmas.{AreRun, go_on, step_close, step_run, begun_inside, run_more, place, digit_of, first_of_escape}

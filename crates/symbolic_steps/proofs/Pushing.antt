@@ -1,5 +1,5 @@
 -- A term that is made and pushed is made first.
-use Rattle.std.proofs.Common.{◌≡◌, ℕ, ◌≤◌, Bool, true, false, ◌&&◌, refl, ap, ◌∙◌}
+use Rattle.std.proofs.Common.{◌≡◌, ◌≤◌, Bool, true, false, ◌&&◌, refl, ap, ◌∙◌}
 use Rattle.std.proofs.lemmas.Bool.{le-leb}
 use Rattle.std.specs.Prelude.{nat_le, length, Ok}
 use Rattle.wasm_values.specs.declared.limit.LimitWord.TheVariants as limit

@@ -1,5 +1,5 @@
 -- Stores and growths whose terms are made first.
-use Rattle.std.proofs.Common.{◌≡◌, ℕ, ◌+◌, ◌≤◌, ◌<◌, Bool, true, false, ◌&&◌, List, [], ◌∷◌, ◌++◌, refl, sym, ap, ◌∙◌, arith}
+use Rattle.std.proofs.Common.{◌≡◌, ℕ, ◌+◌, ◌≤◌, ◌<◌, Bool, true, false, ◌&&◌, [], ◌∷◌, ◌++◌, refl, sym, ap, ◌∙◌, arith}
 use Rattle.std.proofs.lemmas.Bool.{le-leb, lt-leb, leb-false, leb-true}
 use Rattle.std.specs.Prelude.{nat_le, length, Ok, Err}
 use Rattle.wasm_values.specs.declared.limit.LimitWord.TheVariants as limit

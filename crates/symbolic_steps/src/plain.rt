@@ -2,7 +2,6 @@
 
 ghost use Rattle.std.specs.Prelude.{◌≡◌, ◌<◌, length, IfOk};
 ghost use Rattle.wasm_values.specs.Answers.{Gives};
-ghost use Rattle.wasm_values.specs.Operators.{number_of};
 ghost use Rattle.outline_rules.specs.Instructions.{nop, drop, const, chosen, select};
 ghost use Rattle.symbolic_steps.specs.words.Parts.{choice_pushed};
 ghost use Rattle.outline_rules.specs.States.{entry_of, operand, fact_added};
@@ -27,23 +26,13 @@ pub fn nop(state: &mut TrackedState, used: &Use) -> Result<(), Refused>
     unused(used)
 }
 
-/// The unsigned number of a value.
-fn number_of(value: Val) -> u64
-    ensures { result ≡ number_of value }
-{
-    match value {
-        Val::I32(n) => n as u64,
-        Val::I64(n) => n,
-    }
-}
-
 /// A constant: its unsigned number.
 pub fn constant(state: &mut TrackedState, used: &Use, value: Val) -> Result<(), Refused>
     ensures done { Gives refusal_of (λ _. state.new.state) result (const value used.now state.old.state) }
     ensures kept { IfOk result (λ _. Grown state.old state.new) }
 {
     unused(used)?;
-    let id = state.number(number_of(value))?;
+    let id = state.number(value.number())?;
     state.push(value.ty(), id)
 }
 

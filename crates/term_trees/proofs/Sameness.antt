@@ -19,7 +19,7 @@ pub induct : (P : Term → Type 0) → ((l : Term-F ((t : Term) × P t)) → P (
 induct P step = ind-Term P (λ x y is. subst (λ l. P (roll-Term l)) is (step y))
 
 -- the test at a layer, by the layer of the other tree
-abbrev layer_test : Term-F (Term → Bool) → Term-F Term → Bool
+abbrev pub layer_test : Term-F (Term → Bool) → Term-F Term → Bool
 layer_test (Num n) m = passes (num_here m) (λ k. int_eq n k)
 layer_test (Var k) m = passes (var_here m) (λ j. k == j)
 layer_test (Own k) m = passes (own_here m) (λ j. k == j)
@@ -33,7 +33,7 @@ layer_test (Low k a) m = passes (low_here m) (λ p. k == p.0 && a p.1)
 layer_test (Sext k n a) m = passes (sext_here m) (λ p. k == p.0 && (n == p.1 && a p.2))
 layer_test (Sgn n a) m = passes (sgn_here m) (λ p. n == p.0 && a p.1)
 
-here-test : (l : Term-F (Term → Bool)) (u : Term) → same_here l u ≡ layer_test l (out-Term u)
+pub here-test : (l : Term-F (Term → Bool)) (u : Term) → same_here l u ≡ layer_test l (out-Term u)
 here-test (Num n) u = refl
 here-test (Var k) u = refl
 here-test (Own k) u = refl

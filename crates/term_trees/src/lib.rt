@@ -26,5 +26,6 @@ pub use laws::{
 };
 pub use linear::{Linear, Way};
 pub use normalize::normal;
+pub use same::{same_parts, same_term};
 pub use scope::{Bounds, Scoped, formula_in_scope, in_scope};
 pub use term::{Formula, Place, Term};

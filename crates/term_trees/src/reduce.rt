@@ -24,21 +24,12 @@ fn operand(op: NumOp, a: i128) -> Val
     }
 }
 
-fn number_of(value: Val) -> i128
-    ensures { result ≡ pos (number_of value) }
-{
-    match value {
-        Val::I32(a) => i128::from(a),
-        Val::I64(a) => i128::from(a),
-    }
-}
-
 /// What an operator of one operand gives at a whole number.
 pub(crate) fn one_value(op: NumOp, a: i128) -> i128
     requires { num_operands op ≡ 1 }
     ensures { result ≡ pos (num_unary op (modulo a (2 ^ num_width op))) }
 {
-    number_of(num1(op, operand(op, a)))
+    i128::from(num1(op, operand(op, a)).number())
 }
 
 /// What an operator of two operands gives at whole numbers, and 0 where it is undefined.
@@ -47,7 +38,7 @@ pub(crate) fn two_value(op: NumOp, a: i128, b: i128) -> i128
     ensures { result ≡ pos (unwrap_or (num_binary op (modulo a (2 ^ num_width op)) (modulo b (2 ^ num_width op))) 0) }
 {
     match num2(op, operand(op, a), operand(op, b)) {
-        Some(value) => number_of(value),
+        Some(value) => i128::from(value.number()),
         None => 0,
     }
 }

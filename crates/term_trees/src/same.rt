@@ -13,8 +13,9 @@ fn same_count(k: u32, other: Option<u32>) -> bool
     }
 }
 
+/// Whether there are two terms, and they are these.
 #[cycle(trees)]
-fn same_parts(a: &Term, b: &Term, others: Option<(&Term, &Term)>) -> bool
+pub fn same_parts(a: &Term, b: &Term, others: Option<(&Term, &Term)>) -> bool
     ensures { result ≡ same_parts a.now b.now (option_map (λ p. (p.0.now, p.1.now)) others.entry) }
 {
     match others {
@@ -35,7 +36,7 @@ fn same_counted(k: u32, a: &Term, other: Option<(u32, &Term)>) -> bool
 
 /// Whether two terms are the same tree.
 #[cycle(trees)]
-pub(crate) fn same_term(t: &Term, u: &Term) -> bool
+pub fn same_term(t: &Term, u: &Term) -> bool
     ensures { result ≡ same t.now u.now }
 {
     match t {

@@ -11,9 +11,7 @@ use Rattle.wasm_values.proofs.ByteLaws.{number_of_bytes-lt}
 use Rattle.wasm_syntax.specs.declared.instr.LoadOp.{LoadOp}
 use Rattle.wasm_syntax.specs.declared.instr.LoadOp.TheVariants as load
 use Rattle.wasm_typing.specs.Valid.{ValInRange}
-use Rattle.wasm_syntax.specs.declared.instr.StoreOp.{StoreOp}
-use Rattle.wasm_syntax.specs.declared.instr.StoreOp.TheVariants as store
-use Rattle.wasm_syntax.specs.Accesses.{loaded_type, bytes_loaded}
+use Rattle.wasm_syntax.specs.Accesses.{bytes_loaded}
 use Rattle.wasm_store.specs.Memory.{value_loaded}
 
 pub type_of-value_of : (ty : ValType) (n : ℕ) → type_of (value_of ty n) ≡ ty

@@ -27,7 +27,7 @@ use Rattle.wasm_reduce.specs.declared.policy.Policy.{Policy}
 use Rattle.wasm_reduce.specs.declared.moved.Moved.{Moved}
 use Rattle.wasm_reduce.specs.declared.moved.Moved.TheVariants as moved
 use Rattle.wasm_sessions.specs.Pool.{IsSharedByTable, InReach}
-use Rattle.wasm_sessions.specs.Hosts.{HasHostOnTop, HostHasControl, HostMakes, HostCall, HostReturn, HostTrap}
+use Rattle.wasm_sessions.specs.Hosts.{HasHostOnTop}
 use Rattle.wasm_sessions.specs.Hosts as write
 use Rattle.wasm_sessions.proofs.HostLaws.{pool_exists, write_typed, call_typed, return_typed, trap_typed}
 use Rattle.wasm_instantiate.specs.declared.acts.HostAct.{HostAct}

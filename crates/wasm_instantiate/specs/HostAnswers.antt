@@ -18,7 +18,7 @@ use Rattle.wasm_reduce.specs.declared.moved.Moved.{Moved}
 use Rattle.wasm_reduce.specs.declared.moved.Moved.TheVariants as moved
 use Rattle.wasm_reduce.specs.Policies.{lets_grow}
 use Rattle.wasm_sessions.specs.Pool.{InPool, InReach}
-use Rattle.wasm_sessions.specs.Hosts.{Write, HasHostOnTop, HostHasControl, HostMakes, HostCall, HostReturn, HostTrap}
+use Rattle.wasm_sessions.specs.Hosts.{HasHostOnTop, HostHasControl, HostMakes, HostCall, HostReturn, HostTrap}
 use Rattle.wasm_sessions.specs.Hosts as write
 use Rattle.module_instances.specs.Refusals.{entries_in}
 use Rattle.wasm_instantiate.specs.declared.acts.HostAct.{HostAct}

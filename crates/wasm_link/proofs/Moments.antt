@@ -14,7 +14,7 @@ use Rattle.wasm_store.specs.Configuration.{Configuration, started}
 use Rattle.wasm_store.specs.Readers.{export_named}
 use Rattle.wasm_reduce.specs.Policies.{grows_next}
 use Rattle.wasm_sessions.specs.Pool.{InPool}
-use Rattle.wasm_sessions.specs.Sessions.{Action, Follows, IsSession}
+use Rattle.wasm_sessions.specs.Sessions.{Follows, IsSession}
 use Rattle.wasm_sessions.specs.Sessions as session
 use Rattle.script_text.specs.declared.script.Load.{Load}
 use Rattle.script_text.specs.declared.script.Origin.{Origin}

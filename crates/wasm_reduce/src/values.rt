@@ -1,7 +1,6 @@
 //! Instructions that work on a frame's operands and locals, and on globals and memories that they only read or write.
 
-ghost use Rattle.std.specs.Prelude.{◌≡◌, ℕ, OnOk, OnErr, IfOk, All};
-ghost use Rattle.wasm_values.specs.Operators.{number_of};
+ghost use Rattle.std.specs.Prelude.{◌≡◌, OnErr, IfOk, All};
 ghost use Rattle.wasm_store.specs.Memory.{LoadStep, StoreStep, SizeStep, GrowStep};
 ghost use Rattle.wasm_store.specs.Numeric.{NumStep, GlobalSetStep};
 ghost use Rattle.type_safety.specs.Stores.{MemoryTyped};
@@ -48,16 +47,6 @@ pub fn load(store: &Store, frame: &mut CodeFrame, op: LoadOp, offset: u32, on: u
     }
 }
 
-/// The number of a value.
-fn number_of(value: Val) -> u64
-    ensures { result ≡ number_of value }
-{
-    match value {
-        Val::I32(number) => u64::from(number),
-        Val::I64(number) => number,
-    }
-}
-
 /// A store.
 pub fn store_number(
     alloc: Global,
@@ -72,7 +61,7 @@ pub fn store_number(
     ensures code { SameCode store.old store.new }
 {
     let m = memory_address(store, frame.instance);
-    let value = number_of(pop(&mut frame.operands));
+    let value = pop(&mut frame.operands).number();
     let at = pop_number(&mut frame.operands) as usize + offset as usize;
     let width = bytes_stored(op);
     if !is_within(

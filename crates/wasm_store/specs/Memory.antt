@@ -1,9 +1,8 @@
 -- Instructions of memory (Core Specification, section 4.4.4).
-use Rattle.std.specs.Prelude.{◌≡◌, ℕ, ◌+◌, ◌*◌, ◌/◌, Bool, true, false, ◌&&◌, nat_le, if◌then◌else◌, List, ◌∷◌, ◌++◌, Option, Some, None, length, take, drop, slice_get, slice_set, replicate, IsTrue}
+use Rattle.std.specs.Prelude.{◌≡◌, ℕ, ◌+◌, ◌*◌, ◌/◌, Bool, true, false, ◌&&◌, nat_le, if◌then◌else◌, List, ◌∷◌, ◌++◌, Option, Some, length, take, drop, slice_get, slice_set, replicate, IsTrue}
 use Rattle.wasm_values.specs.declared.number.Val.{Val}
 use Rattle.wasm_values.specs.declared.number.Val.TheVariants as val
-use Rattle.wasm_values.specs.declared.number.ValType.{ValType}
-use Rattle.wasm_values.specs.declared.number.ValType.TheVariants.{I32, I64}
+use Rattle.wasm_values.specs.declared.number.ValType.TheVariants.{I32}
 use Rattle.wasm_values.specs.Operators.{value_of, width_of, sign_extended, number_of_bytes, bytes_of_number}
 use Rattle.wasm_values.specs.Types.{is_at_most}
 use Rattle.wasm_syntax.specs.declared.instr.LoadOp.{LoadOp}

@@ -11,7 +11,7 @@ use Rattle.wasm_syntax.specs.declared.flat.Flat.TheVariants.{Block, Loop, If, El
 use Rattle.wasm_syntax.specs.FlatForm.{flat_of, flat, flat_body}
 use Rattle.wasm_syntax.specs.Sides.{Side, ToEnd, ToElse, instrs_of, after, read, flat_sides, sides_in, sides_from, first_instrs}
 use Rattle.wasm_syntax.specs.Trees as tree
-use Rattle.wasm_syntax.specs.Trees.{Instruction, Sequence, Empty, Then, IfElse, instruction_of, sequence_of, instr_from, instrs_from}
+use Rattle.wasm_syntax.specs.Trees.{Instruction, Sequence, Then, IfElse, instruction_of, sequence_of, instr_from, instrs_from}
 use Rattle.wasm_syntax.specs.Places.{size_of, size_of_all, rest_at, item_of, StopsAt, HasPartsAt, InstructionAt}
 use Rattle.wasm_syntax.proofs.FlatLemmas.{flat_of-Block, flat_of-Loop, flat_of-If, flat_of-If_Else, flat_of-simple}
 use Rattle.wasm_syntax.proofs.SideLemmas.{read-flat_sides, flat_sides-after}

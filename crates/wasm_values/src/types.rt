@@ -1,5 +1,5 @@
 ghost use Rattle.std.specs.Prelude.{◌≡◌, ◌++◌, ◌==◌, ◌↔◌, IsTrue, OnOk};
-ghost use Rattle.wasm_values.specs.Operators.{operands, num_operands, is_test, type_of, width_of, value_of};
+ghost use Rattle.wasm_values.specs.Operators.{operands, num_operands, is_test, type_of, width_of, value_of, number_of};
 ghost use Rattle.wasm_values.specs.Types.{is_same_type, are_same_types, is_at_most, zeros_of};
 
 use crate::error::OutOfMemory;
@@ -36,6 +36,16 @@ impl Val {
         match self {
             Val::I32(_) => ValType::I32,
             Val::I64(_) => ValType::I64,
+        }
+    }
+
+    /// Its unsigned number.
+    pub fn number(self) -> u64
+        ensures { result ≡ number_of self }
+    {
+        match self {
+            Val::I32(number) => u64::from(number),
+            Val::I64(number) => number,
         }
     }
 }

@@ -5,7 +5,6 @@ use Rattle.std.specs.Int.{w32, w64, cast_unsigned}
 use Rattle.std.proofs.lemmas.Bool.{ltb-true, ltb-false, lt-ltb, le-ltb}
 use Rattle.std.proofs.Math.Nat.{pow-succ'}
 use Rattle.wasm_values.specs.declared.number.ValType.{ValType}
-use Rattle.wasm_values.specs.declared.number.ValType.TheVariants.{I32, I64}
 use Rattle.wasm_values.specs.Types.{is_same_type}
 use Rattle.wasm_values.proofs.TypeLaws.{type-refl}
 use Rattle.binary_grammar.specs.Bounds.{copies}

@@ -81,7 +81,9 @@ pub fn encode(alloc: Global, module: &Module) -> Result<Bytes, EncodeFault>
 
 /// A module's text, read again: the module, or want of memory.
 pub fn decoded_again(alloc: Global, module: &Module) -> Result<Decoded, DecodeFault>
-    ensures { Writable «module».now → MatchResult result (λ again. again.«module» ≡ «module».now) (λ fault. fault ≡ DecodeFault.OutOfMemory) }
+    ensures same { Writable «module».now → MatchResult result (λ again. again.«module» ≡ «module».now) (λ fault. fault ≡ DecodeFault.OutOfMemory) }
+    // Its marks are those of the text.
+    ensures marks { IfOk result (λ again. Spells (encoded «module».now) again.«module» again.marks) }
 {
     match encode(alloc, module) {
         Ok(text) => decode(alloc, text.as_slice()),

@@ -1,6 +1,6 @@
 -- Reading from the front of the bytes that are left of a region, item by item, with the first fault that is met.
 -- A reader takes the place where the region ends and the bytes that are left, and gives a value and what is left then.
-use Rattle.std.specs.Prelude.{◌≡◌, ℕ, zero, suc, ◌-◌, nat_lt, ◌==◌, if◌then◌else◌, List, [], ◌∷◌, length, take, drop, Option, Some, None, Result, Ok, Err}
+use Rattle.std.specs.Prelude.{ℕ, zero, suc, ◌-◌, nat_lt, ◌==◌, if◌then◌else◌, List, [], ◌∷◌, length, take, drop, Option, Some, None, Result, Ok, Err}
 use Rattle.binary_grammar.specs.declared.fault.LebFault.{LebFault}
 use Rattle.binary_grammar.specs.declared.fault.LebFault.TheVariants as leb
 use Rattle.binary_grammar.specs.declared.fault.DecodeFault.{DecodeFault}

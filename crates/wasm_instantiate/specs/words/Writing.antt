@@ -4,7 +4,7 @@ use Rattle.wasm_store.specs.declared.store.Store.{Store}
 use Rattle.wasm_reduce.specs.declared.policy.Policy.{Policy}
 use Rattle.wasm_reduce.specs.declared.moved.Moved.{Moved}
 use Rattle.wasm_reduce.specs.declared.moved.Moved.TheVariants.{Went}
-use Rattle.wasm_sessions.specs.Hosts.{Write, WritesStore}
+use Rattle.wasm_sessions.specs.Hosts.{WritesStore}
 use Rattle.wasm_sessions.specs.Hosts as write
 use Rattle.wasm_instantiate.specs.declared.acts.HostAct.{HostAct}
 use Rattle.wasm_instantiate.specs.declared.acts.HostAct.TheVariants.{Byte, Global, Entry, Grow, GrowTable, Call, Return, Trap}

@@ -1,5 +1,5 @@
 use Rattle.std.proofs.Common.{rules}
-use Rattle.outline_check.specs.Refusals.{IsSaid, IsAnswer}
+use Rattle.outline_check.specs.Refusals.{IsSaid}
 use Rattle.outline_check.specs.Outlines.{module_outline, outline}
 use Rattle.outline_check.proofs.check.check_module.Goals as goal
 

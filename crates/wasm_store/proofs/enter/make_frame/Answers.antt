@@ -1,4 +1,4 @@
-use Rattle.std.proofs.Common.{◌≡◌, Some, ◌++◌, map, refl, sym, ap, ◌∙◌, slice_get}
+use Rattle.std.proofs.Common.{◌≡◌, Some, ◌++◌, refl, sym, ap, ◌∙◌, slice_get}
 use Rattle.std.specs.Option.{option_copied}
 use Rattle.wasm_values.specs.Types.{zeros_of}
 use Rattle.wasm_store.specs.declared.config.CodeFrame.{CodeFrame}

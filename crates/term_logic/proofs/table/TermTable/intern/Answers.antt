@@ -2,7 +2,7 @@ use Rattle.std.proofs.Common.{◌≡◌, None, sym}
 use Rattle.indexmap.specs.IndexMap.{get}
 use Rattle.term_logic.proofs.Interned.{eq, none_of, found, table_after, new_within, new_tree, extends}
 use Rattle.term_logic.proofs.table.TermTable.intern.Goals as goal
-use Rattle.term_logic.proofs.table.TermTable.intern.Goals.{In-Ok, In-Some}
+use Rattle.term_logic.proofs.table.TermTable.intern.Goals.{In-Ok}
 
 pub returns-in-Some-clause-within : goal.returns-in-Some-clause-within
 returns-in-Some-clause-within c =
