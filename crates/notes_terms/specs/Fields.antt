@@ -1,6 +1,7 @@
 -- Parts of a list, each read in its own way, one after another.
 use Rattle.std.specs.Prelude.{ℕ, Result, Ok}
 use Rattle.sexp_text.specs.declared.fault.TextFault.{TextFault}
+use Rattle.sexp_text.specs.Reading.{◌>>=◌}
 use Rattle.notes_grammar.specs.Parts.{Part, Parts}
 use Rattle.notes_grammar.specs.Reading.{field, ended}
 
