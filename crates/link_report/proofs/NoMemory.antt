@@ -89,8 +89,8 @@ tagged_no tag s =
     then_no (word f.0) _ (word_no f.0) (λ w. if_no (bytes_eq w tag) _ _ (ok_no (f.1, l.1)) (refused_no f.0.at _))))
 
 all_no : {A : Type 0} (read : Sexp → Result A TextFault) → ((s : Sexp) → NoMemory (read s)) → (before : List A) (ss : List Sexp) → NoMemory (all_from read before ss)
-all_no read no before [] = ok_no before
-all_no read no before (s ∷ ss) = then_no (read s) _ (no s) (λ x. all_no read no (before ++ x ∷ []) ss)
+all_no one each before [] = ok_no before
+all_no one each before (s ∷ ss) = then_no (one s) _ (each s) (λ x. all_no one each (before ++ x ∷ []) ss)
 
 -- ---- scripts
 
