@@ -633,3 +633,73 @@ pub const BOUNDS: &[(&[u8], &[u8])] = &[
     // No function.
     (&[], b""),
 ];
+
+// A function that counts down from 3, exported as `f`.
+const LOOP: &[u8] = &[
+    0, 0x61, 0x73, 0x6d, 1, 0, 0, 0, 1, 5, 1, 0x60, 0, 1, 0x7f, 3, 2, 1, 0, 7, 5, 1, 1, 0x66, 0, 0,
+    0xa, 0x18, 1, 0x16, 1, 1, 0x7f, 0x41, 3, 0x21, 0, 3, 0x40, 0x20, 0, 0x41, 1, 0x6b, 0x22, 0,
+    0xd, 0, 0xb, 0x20, 0, 0xb,
+];
+
+// A memory of one page that may grow to two, and a function that grows it, exported as `g`.
+const GROW: &[u8] = &[
+    0, 0x61, 0x73, 0x6d, 1, 0, 0, 0, 1, 6, 1, 0x60, 1, 0x7f, 1, 0x7f, 3, 2, 1, 0, 5, 4, 1, 1, 1, 2,
+    7, 5, 1, 1, 0x67, 0, 0, 0xa, 8, 1, 6, 0, 0x20, 0, 0x40, 0, 0xb,
+];
+
+// The first bytes of a module.
+const CUT: &[u8] = &[
+    0, 0x61, 0x73, 0x6d, 1, 0, 0, 0, 1, 4, 1, 0x60, 0, 0, 3, 2, 1, 0, 6, 6, 1, 0x7f, 1, 0x41, 7,
+    0xb, 7, 5, 1, 1,
+];
+
+// A function that sets its global by an operand that is missing.
+const LEFT: &[u8] = &[
+    0, 0x61, 0x73, 0x6d, 1, 0, 0, 0, 1, 4, 1, 0x60, 0, 0, 3, 2, 1, 0, 6, 6, 1, 0x7f, 1, 0x41, 7,
+    0xb, 7, 5, 1, 1, 0x66, 0, 0, 0xa, 8, 1, 6, 0, 1, 1, 0x24, 0, 0xb,
+];
+
+/// Scripts over one module: the module's bytes, the script, and what `link` writes.
+pub const LINKS: &[(&[u8], &[u8], &[u8])] = &[
+    (
+        LOOP,
+        b"(script 21 (load m \"m\") (new a m) (call a \"f\"))",
+        b"a: made\na \"f\": values i32 0\n",
+    ),
+    (
+        LOOP,
+        b"(script 20 (load m \"m\") (new a m) (call a \"f\"))",
+        b"a: made\na \"f\": stopped\n",
+    ),
+    (
+        LOOP,
+        b"(script 21 (load m \"m\") (new a m) (call a \"g\"))",
+        b"name at 0x0000002a\n",
+    ),
+    (
+        GROW,
+        b"(script 100 (load m \"m\") (new x m) (call x \"g\" (i32 1)) (call x \"g\" (i32 1)) (call x \"g\"))",
+        b"x: made\nx \"g\": values i32 1\nx \"g\": values i32 4294967295\nx \"g\": arguments\n",
+    ),
+    (
+        CUT,
+        b"(script 1 (load m \"m\"))",
+        b"module m: malformed: size at 0x0000001b\n",
+    ),
+    (
+        LEFT,
+        b"(script 1 (load m \"m\"))",
+        b"module m: invalid: stack at 0x00000028\n",
+    ),
+    (
+        LOOP,
+        b"(script 0 (load m \"m\"))",
+        b"script: form at 0x00000008\n",
+    ),
+    (
+        LOOP,
+        b"(script 1 (load m \"m\") (load m \"m\"))",
+        b"script: name at 0x0000001d\n",
+    ),
+    (LOOP, b"(script 1 (load m \"x\"))", b""),
+];

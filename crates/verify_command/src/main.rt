@@ -1,6 +1,6 @@
 //! The verifier: `verify MODULE NOTES` says whether the notes are an accepted proof outline of the module, `check MODULE`
 //! whether a module is valid, `show MODULE` lists it, and `steps MODULE` bounds the steps of its functions. `seal MODULE NOTES`
-//! writes one file of the two where they verify, and `sealed FILE` verifies such a file.
+//! writes one file of the two where they verify, and `sealed FILE` verifies such a file. `link SCRIPT` links modules and runs them.
 #![tactic(auto)]
 
 #[cfg(test)]

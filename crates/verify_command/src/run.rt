@@ -3,8 +3,9 @@
 ghost use Rattle.std.specs.Prelude.{◌≡◌, ◌≤◌, ◌⊎◌, None, IfSome, IsSomeAnd};
 ghost use Rattle.std.specs.Io.KnownBytes.{Appends};
 ghost use Rattle.rw_edge.specs.Count.{Faulted};
-ghost use Rattle.verify_report.specs.Reports.{Report, IsReport, command_of, nothing_read, words_refused};
-ghost use Rattle.verify_report.specs.Outcomes.{IsSpoken, IsQuiet, Comes, Wrote, Told, AskVerdict, texts, verified_text};
+ghost use Rattle.report_lines.specs.Reports.{Report, nothing_read, IsSpoken};
+ghost use Rattle.verify_report.specs.Reports.{IsReport, command_of, words_refused};
+ghost use Rattle.verify_report.specs.Outcomes.{IsQuiet, Comes, Wrote, Told, AskVerdict, texts, verified_text};
 ghost use Rattle.verify_report.specs.Accepted.{IsAccepted};
 
 use rw_edge::{Failed, Shelf, Sink, emit};

@@ -1,6 +1,6 @@
 ghost use Rattle.std.specs.Prelude.{◌<◌};
 
-use crate::cases::{BODIES, BOUNDS, LISTINGS, NOTES, PREFIXES, SECTIONS};
+use crate::cases::{BODIES, BOUNDS, LINKS, LISTINGS, NOTES, PREFIXES, SECTIONS};
 use crate::run::run;
 use rw_edge::{MemShelf, MemSink};
 use std::alloc::Global;
@@ -257,6 +257,34 @@ fn bounds(rt: HostRuntime) -> Result<(), Fail> {
         assert_eq!(rt; bounded.0, Status::Good);
         assert_eq!(rt; bounded.1.written(), *said);
     }
+    Ok(())
+}
+
+#[test]
+fn scripts(rt: HostRuntime) -> Result<(), Fail> {
+    let alloc = rt.alloc();
+    for (module, script, said) in LINKS {
+        let words = ["link", "n"];
+        let module = module.to_vec(alloc)?;
+        let linked = outcome_with(alloc, &words, module, script.to_vec(alloc)?, 999, 99)?;
+        assert_eq!(rt; linked.1.written(), *said);
+    }
+    Ok(())
+}
+
+#[test]
+fn scripts_not_run(rt: HostRuntime) -> Result<(), Fail> {
+    let alloc = rt.alloc();
+    let long = vec![in alloc; 0x20; 1_048_577]?;
+    let limit = outcome(alloc, &["link", "m"], long, 99, 99)?;
+    assert_eq!(rt; limit.0, Status::Limit);
+    assert_eq!(rt;
+        limit.1.written(),
+        b"limit: script at 0x00100000\n".as_slice()
+    );
+    let missing = outcome(alloc, &["link", "x"], Vec::new(alloc), 99, 99)?;
+    assert_eq!(rt; missing.0, Status::ReadFault);
+    assert_eq!(rt; missing.1.written(), b"".as_slice());
     Ok(())
 }
 

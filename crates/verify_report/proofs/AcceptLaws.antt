@@ -18,39 +18,17 @@ use Rattle.first_reader.proofs.NoteLaws as notes_laws
 use Rattle.step_bound.proofs.Existing.{bounds_exist}
 use Rattle.rw_edge.specs.Files.{contents_of}
 use Rattle.wasm_seal.specs.Sealed.{sealed_file, Split}
-use Rattle.verify_report.specs.declared.status.Status.{Status}
-use Rattle.verify_report.specs.declared.status.Status.TheVariants as status
-use Rattle.verify_report.specs.Reports.{Report, Files, Command, Check, Show, Verify, Seal, Sealed, module_limit, module_too_long, notes_limit, notes_too_long, sealed_limit, sealed_too_long, module_valid, module_listed, outlined, noted, IsFaultReport, OfFile, OfBytes, OfModule, OfFirst, OfChecked, OfShown, OfJudged, OfNotes, is_good, sealing, OfSealing, OfSealedNotes, OfParts, OfSplit, OfCommand, command_of, IsReport, Steps, bounds_listed, OfBounds, OfBounded}
+use Rattle.report_lines.specs.declared.status.Status.{Status}
+use Rattle.report_lines.specs.declared.status.Status.TheVariants as status
+use Rattle.report_lines.specs.Reports.{Report, Files, module_limit, module_too_long, IsFaultReport, OfFile}
+use Rattle.verify_report.specs.Reports.{Command, Check, Show, Verify, Seal, Sealed, Link, notes_limit, notes_too_long, sealed_limit, sealed_too_long, module_valid, module_listed, outlined, noted, OfBytes, OfModule, OfFirst, OfChecked, OfShown, OfJudged, OfNotes, is_good, sealing, OfSealing, OfSealedNotes, OfParts, OfSplit, OfCommand, command_of, IsReport, Steps, bounds_listed, OfBounds, OfBounded}
+use Rattle.link_report.proofs.LinkGood.{link_only, link_there}
+use Rattle.report_lines.proofs.FileGood.{IsGood, not_good, good_file, file_good, not_fault, there_is, at_some}
 use Rattle.verify_report.proofs.ReportLaws as stages
 use Rattle.verify_report.proofs.OnceLaws.{command_once}
 use Rattle.verify_report.specs.Accepted.{IsModule, IsValidModule, Accepts, AcceptsSealed, Accepted, IsAccepted}
 
--- reports that are not good
-abbrev IsGood : Report → Type 0
-IsGood r = r.status ≡ status.Good
-
-not_good : (r s : Report) → r ≡ s → (s.status ≡ status.Good → ⊥) → IsGood r → ⊥
-not_good r s e bad good = bad (sym (ap (λ (q : Report). q.status) e) ∙ good)
-
--- ---- a file
-
-good_file : (limit : ℕ) (long : Report) (Next : List ℕ → Report → Type 0) (o : Option (List ℕ)) (r : Report) → (long.status ≡ status.Good → ⊥) → OfFile limit long Next o r → IsGood r →
-    IsSomeAnd o (λ c. (length c ≤ limit) × Next c r)
-unfolding OfFile
-good_file limit long Next None r bad h good = not_good r _ h (λ e. absurd cc) good
-good_file limit long Next (Some c) r bad (inl h) good = absurd (not_good r long h.1 bad good)
-good_file limit long Next (Some c) r bad (inr h) good = h
-
-file_good : (limit : ℕ) (long : Report) (Next : List ℕ → Report → Type 0) (o : Option (List ℕ)) (c : List ℕ) (r : Report) → o ≡ Some c → length c ≤ limit → Next c r → OfFile limit long Next o r
-unfolding OfFile
-file_good limit long Next o c r e le next = let F : Option (List ℕ) → Type 0 = λ p. OfFile limit long Next p r in subst F (sym e) (inr (le, next))
-
 -- ---- bytes and modules
-
-not_fault : (fault : DecodeFault) (r : Report) → IsFaultReport fault r → IsGood r → ⊥
-not_fault (decode.Malformed at w) r h good = not_good r _ h (λ e. absurd cc) good
-not_fault (decode.Limit at w) r h good = not_good r _ h (λ e. absurd cc) good
-not_fault decode.OutOfMemory r h good = h
 
 good_bytes : (Next : Module → Marks → Report → Type 0) (bytes : List ℕ) (r : Report) → OfBytes Next bytes r → IsGood r → (m : Module) × (k : Marks) × Spells bytes m k × InLimits the_bounds m × Next m k r
 unfolding OfBytes
@@ -92,14 +70,6 @@ first_good text m k h =
     inl (h.first, sym (ap (noted m k) read ∙ ap outlined h.verified))
 
 -- ---- commands
-
-there_is : {P : List ℕ → Type 0} (o : Option (List ℕ)) → IsSomeAnd o P → (c : List ℕ) × (o ≡ Some c) × P c
-there_is None h = absurd h
-there_is (Some c) h = (c, refl, h)
-
-at_some : {P Q : List ℕ → Type 0} (o : Option (List ℕ)) → ((c : List ℕ) → P c → Q c) → IsSomeAnd o P → IsSomeAnd o Q
-at_some None f h = h
-at_some (Some c) f h = f c h
 
 good_checked : (bytes : List ℕ) (r : Report) → length bytes ≤ module_limit → OfChecked bytes r → IsGood r → IsValidModule bytes
 good_checked bytes r le h good =
@@ -233,6 +203,7 @@ good_command files (Some (Seal m n)) r h good =
 good_command files (Some (Sealed f)) r h good =
     at_some {P = λ c. (length c ≤ sealed_limit) × OfSplit c r} {Q = AcceptsSealed} (contents_of files f) (λ c x. good_split c r x.0 x.1 good)
     (good_file sealed_limit sealed_too_long OfSplit (contents_of files f) r (λ e. absurd cc) h good)
+good_command files (Some (Link s)) r h good = link_only files s r h good
 
 command_good : (files : Files) (c : Option Command) → Accepted files c → (r : Report) × OfCommand files c r × IsGood r
 command_good files None h = absurd h
@@ -272,6 +243,7 @@ command_good files (Some (Sealed f)) h =
     let a : AcceptsSealed there.0 = there.2 in
     let r : Report = outlined Verified in
     (r, file_good sealed_limit sealed_too_long OfSplit (contents_of files f) there.0 r there.1 a.few_bytes (split_good there.0 a), refl)
+command_good files (Some (Link s)) h = link_there files s h
 
 pub reported_accepted : (words : List (List ℕ)) (files : Files) (r : Report) → IsReport words files r → r.status ≡ status.Good → IsAccepted words files
 reported_accepted words files = good_command files (command_of words)

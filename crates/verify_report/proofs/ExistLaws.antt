@@ -27,46 +27,15 @@ use Rattle.step_bound.proofs.Existing.{bounds_exist}
 use Rattle.rw_edge.specs.Files.{contents_of}
 use Rattle.wasm_seal.specs.Sealed.{Split}
 use Rattle.wasm_seal.proofs.DecideLaws.{split_decided}
-use Rattle.verify_report.specs.Lines.{limit_line, malformed_line}
-use Rattle.verify_report.specs.declared.status.Status.TheVariants as status
-use Rattle.verify_report.specs.Reports.{Report, ReportsOf, Files, HoldBytes, Command, Check, Show, Verify, Seal, Sealed, command_of, IsFaultReport, OfFile, OfBytes, OfModule, OfFirst, OfChecked, OfShown, OfJudged, OfNotes, sealing, OfSealing, OfSealedNotes, OfParts, OfSplit, OfShow, OfCommand, IsReport, nothing_read, words_refused, module_limit, module_too_long, notes_limit, notes_too_long, sealed_limit, sealed_too_long, not_sealed, module_valid, module_listed, invalid_report, unbuilt_module, noted, Steps, OfBounds, OfBounded, bounds_listed}
+use Rattle.report_lines.specs.Lines.{limit_line, malformed_line}
+use Rattle.report_lines.specs.declared.status.Status.TheVariants as status
+use Rattle.report_lines.specs.Reports.{Report, ReportsOf, Files, HoldBytes, IsFaultReport, OfFile, nothing_read, module_limit, module_too_long, invalid_report}
+use Rattle.verify_report.specs.Reports.{Command, Check, Show, Verify, Seal, Sealed, Link, command_of, OfBytes, OfModule, OfFirst, OfChecked, OfShown, OfJudged, OfNotes, sealing, OfSealing, OfSealedNotes, OfParts, OfSplit, OfShow, OfCommand, IsReport, words_refused, notes_limit, notes_too_long, sealed_limit, sealed_too_long, not_sealed, module_valid, module_listed, unbuilt_module, noted, Steps, OfBounds, OfBounded, bounds_listed}
+use Rattle.link_report.proofs.LinkSome.{link_some}
+use Rattle.report_lines.proofs.FileSome.{file_some, anything, fault_some, held_are_bytes}
 use Rattle.validity_laws.proofs.MarkLaws.{spelled_marked}
 
--- ---- files
-
-file_some : (limit : ℕ) (long : Report) (Next : ReportsOf (List ℕ)) (P : List ℕ → Type 0) → ((c : List ℕ) → P c → (r : Report) × Next c r) → (o : Option (List ℕ)) → IfSome o P →
-    (r : Report) × OfFile limit long Next o r
-unfolding OfFile
-file_some limit long Next P next None p = (nothing_read, refl)
-file_some limit long Next P next (Some c) p =
-    elim (cases_order limit (length c)) [
-      | inl e ↦ ((next c p).0, inr (omega (arith, e), (next c p).1))
-      | inr more ↦
-          elim more [
-            | inl less ↦ (long, inl (less, refl))
-            | inr less ↦ ((next c p).0, inr (omega (arith, less), (next c p).1))
-          ]
-    ]
-
-anything : (o : Option (List ℕ)) → IfSome o (λ c. Unit {0})
-anything None = tt
-anything (Some c) = tt
-
--- a file that is found holds bytes
-contents_are_bytes : (files : Files) → AllByRecursion (λ (file : List ℕ × List ℕ). BytesInRange file.1) files → (name : List ℕ) → IfSome (contents_of files name) BytesInRange
-contents_are_bytes [] h name = tt
-contents_are_bytes (file ∷ files) h name = by_name (bytes_eq file.0 name) (contents_are_bytes files h.1 name)
-  where
-    by_name : (b : Bool) → IfSome (contents_of files name) BytesInRange → IfSome (if b then Some file.1 else contents_of files name) BytesInRange
-    by_name true rest = h.0
-    by_name false rest = rest
-
 -- ---- bytes
-
-fault_some : (bytes : List ℕ) (f : DecodeFault) → Fault the_bounds bytes f → (r : Report) × IsFaultReport f r
-fault_some bytes (decode.Malformed at w) h = (record { text = malformed_line w at; status = status.Negative }, refl)
-fault_some bytes (decode.Limit at w) h = (record { text = limit_line w at; status = status.Limit }, refl)
-fault_some bytes decode.OutOfMemory h = absurd (of_bytes the_bounds bytes h)
 
 bytes_some : (Next : Module → Marks → Report → Type 0) (bytes : List ℕ) → ((m : Module) (k : Marks) → Spells bytes m k → (r : Report) × Next m k r) → (r : Report) × OfBytes Next bytes r
 unfolding OfBytes
@@ -141,17 +110,18 @@ split_some file b =
 pub show_some : (files : Files) (name : List ℕ) → (r : Report) × OfShow files name r
 show_some files name = file_some module_limit module_too_long OfShown (λ bytes. Unit {0}) shown_some (contents_of files name) (anything (contents_of files name))
 
-command_some : (files : Files) → ((name : List ℕ) → IfSome (contents_of files name) BytesInRange) → (c : Option Command) → (r : Report) × OfCommand files c r
-command_some files b None = (words_refused, refl)
-command_some files b (Some (Check name)) = file_some module_limit module_too_long OfChecked BytesInRange checked_some (contents_of files name) (b name)
-command_some files b (Some (Show name)) = show_some files name
-command_some files b (Some (Steps name)) = file_some module_limit module_too_long OfBounded BytesInRange bounded_some (contents_of files name) (b name)
-command_some files b (Some (Verify name notes)) =
+command_some : (files : Files) → HoldBytes files → ((name : List ℕ) → IfSome (contents_of files name) BytesInRange) → (c : Option Command) → (r : Report) × OfCommand files c r
+command_some files hold b None = (words_refused, refl)
+command_some files hold b (Some (Check name)) = file_some module_limit module_too_long OfChecked BytesInRange checked_some (contents_of files name) (b name)
+command_some files hold b (Some (Show name)) = show_some files name
+command_some files hold b (Some (Steps name)) = file_some module_limit module_too_long OfBounded BytesInRange bounded_some (contents_of files name) (b name)
+command_some files hold b (Some (Verify name notes)) =
     file_some module_limit module_too_long (λ bytes. OfNotes bytes (contents_of files notes)) BytesInRange (notes_some (contents_of files notes)) (contents_of files name) (b name)
-command_some files b (Some (Seal name notes)) =
+command_some files hold b (Some (Seal name notes)) =
     file_some module_limit module_too_long (λ bytes. OfSealedNotes bytes (contents_of files notes)) BytesInRange (sealed_notes_some (contents_of files notes)) (contents_of files name) (b name)
-command_some files b (Some (Sealed name)) = file_some sealed_limit sealed_too_long OfSplit BytesInRange split_some (contents_of files name) (b name)
+command_some files hold b (Some (Sealed name)) = file_some sealed_limit sealed_too_long OfSplit BytesInRange split_some (contents_of files name) (b name)
+command_some files hold b (Some (Link name)) = link_some files hold name
 
 pub report_some : (words : List (List ℕ)) (files : Files) → HoldBytes files → (r : Report) × IsReport words files r
 report_some words files h =
-    command_some files (contents_are_bytes files (recursion_from_All (λ (file : List ℕ × List ℕ). BytesInRange file.1) files h)) (command_of words)
+    command_some files h (held_are_bytes files h) (command_of words)

@@ -15,25 +15,11 @@ use Rattle.binary_grammar.proofs.PlanWhole.{stops_module}
 use Rattle.step_bound.proofs.Answering.{same_answers}
 use Rattle.rw_edge.specs.Files.{contents_of}
 use Rattle.wasm_seal.proofs.NotesLaws.{one_split}
-use Rattle.verify_report.specs.Reports.{Report, Files, Command, Check, Show, Verify, Seal, Sealed, module_limit, module_too_long, notes_limit, notes_too_long, sealed_limit, sealed_too_long, module_valid, module_listed, invalid_report, IsFaultReport, OfFile, OfBytes, OfModule, OfFirst, OfChecked, OfShown, OfJudged, OfNotes, sealing, OfSealing, OfSealedNotes, OfParts, OfSplit, OfCommand, command_of, IsReport, Steps, bounds_listed, OfBounds, OfBounded}
+use Rattle.report_lines.specs.Reports.{Report, Files, module_limit, module_too_long, invalid_report, IsFaultReport, OfFile}
+use Rattle.verify_report.specs.Reports.{Command, Check, Show, Verify, Seal, Sealed, Link, notes_limit, notes_too_long, sealed_limit, sealed_too_long, module_valid, module_listed, OfBytes, OfModule, OfFirst, OfChecked, OfShown, OfJudged, OfNotes, sealing, OfSealing, OfSealedNotes, OfParts, OfSplit, OfCommand, command_of, IsReport, Steps, bounds_listed, OfBounds, OfBounded}
+use Rattle.link_report.proofs.LinkOnce.{link_once}
+use Rattle.report_lines.proofs.FileOnce.{Once, file_once, fault_once}
 use Rattle.validity_laws.proofs.InvalidLaws.{invalid_once, valid_is_not_invalid}
-
--- at most one
-abbrev Once : (Report → Type 0) → Type 0
-Once Is = (r s : Report) → Is r → Is s → r ≡ s
-
-file_once : (limit : ℕ) (long : Report) (Next : List ℕ → Report → Type 0) → ((c : List ℕ) → Once (Next c)) → (o : Option (List ℕ)) → Once (OfFile limit long Next o)
-unfolding OfFile
-file_once limit long Next next None r s a b = a ∙ sym b
-file_once limit long Next next (Some c) r s (inl a) (inl b) = a.1 ∙ sym b.1
-file_once limit long Next next (Some c) r s (inl a) (inr b) = absurd (let x = a.0 in let y = b.0 in omega arith)
-file_once limit long Next next (Some c) r s (inr a) (inl b) = absurd (let x = a.0 in let y = b.0 in omega arith)
-file_once limit long Next next (Some c) r s (inr a) (inr b) = next c r s a.1 b.1
-
-fault_once : (fault : DecodeFault) → Once (IsFaultReport fault)
-fault_once (decode.Malformed at w) r s a b = a ∙ sym b
-fault_once (decode.Limit at w) r s a b = a ∙ sym b
-fault_once decode.OutOfMemory r s a b = absurd a
 
 -- what is spelled within the limits has no fault
 no_fault : (bytes : List ℕ) (m : Module) (k : Marks) (fault : DecodeFault) → Spells bytes m k → InLimits the_bounds m → Fault the_bounds bytes fault → ⊥
@@ -133,6 +119,7 @@ command_once files (Some (Verify m n)) r s a b =
     file_once module_limit module_too_long (λ bytes. OfNotes bytes (contents_of files n)) (λ bytes. notes_once bytes (contents_of files n)) (contents_of files m) r s a b
 command_once files (Some (Seal m n)) r s a b =
     file_once module_limit module_too_long (λ bytes. OfSealedNotes bytes (contents_of files n)) (λ bytes. sealed_notes_once bytes (contents_of files n)) (contents_of files m) r s a b
+command_once files (Some (Link f)) r s a b = link_once files f r s a b
 command_once files (Some (Sealed f)) r s a b = file_once sealed_limit sealed_too_long OfSplit split_once (contents_of files f) r s a b
 
 pub one_report : (words : List (List ℕ)) (files : Files) (r s : Report) → IsReport words files r → IsReport words files s → r ≡ s

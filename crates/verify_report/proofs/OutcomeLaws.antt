@@ -1,10 +1,11 @@
 -- What a run comes to and writes, by the report of its words.
 use Rattle.std.proofs.Common.{◌≡◌, ℕ, List, Option, Some, None, refl, sym, ap, subst, ◌∙◌, ◌⊎◌, inl, inr}
 use Rattle.std.specs.Prelude.{IfSome}
-use Rattle.verify_report.specs.declared.status.Status.{Status}
-use Rattle.verify_report.specs.declared.status.Status.TheVariants as status
-use Rattle.verify_report.specs.Reports.{Report, Files, IsReport, OfCommand, command_of, words_refused}
-use Rattle.verify_report.specs.Outcomes.{IsSpoken, Comes, Wrote, Told}
+use Rattle.report_lines.specs.declared.status.Status.{Status}
+use Rattle.report_lines.specs.declared.status.Status.TheVariants as status
+use Rattle.report_lines.specs.Reports.{Report, Files, IsSpoken}
+use Rattle.verify_report.specs.Reports.{IsReport, OfCommand, command_of, words_refused}
+use Rattle.verify_report.specs.Outcomes.{Comes, Wrote, Told}
 use Rattle.verify_report.specs.Accepted.{IsAccepted}
 use Rattle.verify_report.proofs.OnceLaws.{one_report}
 use Rattle.verify_report.proofs.AcceptLaws.{accepted_reported, reported_accepted}

@@ -4,9 +4,10 @@ use Rattle.std.specs.Prelude.{IfOk, ◌↔◌}
 use Rattle.rw_edge.specs.Files.{contents_of}
 use Rattle.wasm_seal.specs.Sealed.{sealed_file, Split}
 use Rattle.wasm_seal.proofs.NotesLaws.{one_split}
-use Rattle.verify_report.specs.declared.report.Report as reports
-use Rattle.verify_report.specs.declared.status.Status.TheVariants as status
-use Rattle.verify_report.specs.Reports.{Report, seen, Files, module_limit, module_too_long, notes_limit, notes_too_long, sealed_limit, sealed_too_long, not_sealed, is_good, OfFile, OfJudged, OfNotes, OfVerify, sealing, OfSealing, OfParts, OfSplit, OfSealed}
+use Rattle.report_lines.specs.declared.report.Report as reports
+use Rattle.report_lines.specs.declared.status.Status.TheVariants as status
+use Rattle.report_lines.specs.Reports.{Report, seen, Files, module_limit, module_too_long, OfFile}
+use Rattle.verify_report.specs.Reports.{notes_limit, notes_too_long, sealed_limit, sealed_too_long, not_sealed, is_good, OfJudged, OfNotes, OfVerify, sealing, OfSealing, OfParts, OfSplit, OfSealed}
 use Rattle.verify_report.specs.Outcomes.{verified_text}
 use Rattle.verify_report.proofs.AcceptLaws.{good_status}
 use Rattle.verify_report.proofs.Verdicts.{verdict}

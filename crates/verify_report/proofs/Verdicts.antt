@@ -10,10 +10,11 @@ use Rattle.outline_check.specs.Refusals.{Outline}
 use Rattle.outline_check.specs.Refusals as outlines
 use Rattle.outline_check.specs.Outlines.{outline}
 use Rattle.first_reader.specs.ReadingNotes.{first_notes}
-use Rattle.verify_report.specs.declared.report.Report as reports
-use Rattle.verify_report.specs.declared.status.Status.TheVariants as status
-use Rattle.verify_report.specs.Reports.{Report, seen, outlined, noted, IsFaultReport, OfBytes, OfModule, OfFirst, OfJudged}
-use Rattle.verify_report.specs.Outcomes.{IsSpoken, verified_text}
+use Rattle.report_lines.specs.declared.report.Report as reports
+use Rattle.report_lines.specs.declared.status.Status.TheVariants as status
+use Rattle.report_lines.specs.Reports.{Report, seen, IsFaultReport, IsSpoken}
+use Rattle.verify_report.specs.Reports.{outlined, noted, OfBytes, OfModule, OfFirst, OfJudged}
+use Rattle.verify_report.specs.Outcomes.{verified_text}
 
 -- a good report of what notes come to is `verified`
 good_outline : (o : Outline) → (outlined o).status ≡ status.Good → (outlined o).text ≡ verified_text
@@ -55,8 +56,3 @@ verdict bytes text r (inr h) = fault_verdict h.0 r h.2
 pub unread_verdict : {E : Type 0} (F : Type 0) (made : Result reports.Report E) (long : Report) → (long.status ≡ status.Good → ⊥) → IfOk made (λ r. F × (seen r ≡ long)) → IfOk made (λ r. SaysVerified (seen r))
 unread_verdict F (Ok r) long bad h = not_good (seen r) long h.1 bad
 unread_verdict F (Err e) long bad h = tt
-
--- a limit is a status with a line
-pub unread_spoken : {E : Type 0} (F : Type 0) (made : Result reports.Report E) (long : Report) → IsSpoken long.status → IfOk made (λ r. F × (seen r ≡ long)) → IfOk made (λ r. IsSpoken r.status)
-unread_spoken F (Ok r) long spoken h = subst (λ (q : Report). IsSpoken q.status) (sym h.1) spoken
-unread_spoken F (Err e) long spoken h = tt

@@ -12,7 +12,9 @@ use Rattle.outline_check.specs.Outlines.{outline}
 use Rattle.first_reader.specs.FirstNotes.{IsFirstText}
 use Rattle.rw_edge.specs.Files.{contents_of}
 use Rattle.wasm_seal.specs.Sealed.{Split}
-use Rattle.verify_report.specs.Reports.{Command, Check, Show, Verify, Seal, Sealed, Files, module_limit, notes_limit, sealed_limit, command_of, Steps}
+use Rattle.link_report.specs.Links.{AcceptsScript}
+use Rattle.report_lines.specs.Reports.{Files, module_limit}
+use Rattle.verify_report.specs.Reports.{Command, Check, Show, Verify, Seal, Sealed, Link, notes_limit, sealed_limit, command_of, Steps}
 
 -- The bytes spell a module, within the limits of a file and of the decoder.
 pub record IsModule (bytes : List ℕ) : Type 0 where
@@ -63,6 +65,7 @@ Accepted files (Some (Steps «module»)) = IsSomeAnd (contents_of files «module
 Accepted files (Some (Verify «module» notes)) = IsSomeAnd (contents_of files «module») (λ bytes. IsSomeAnd (contents_of files notes) (Accepts bytes))
 Accepted files (Some (Seal «module» notes)) = IsSomeAnd (contents_of files «module») (λ bytes. IsSomeAnd (contents_of files notes) (Accepts bytes))
 Accepted files (Some (Sealed file)) = IsSomeAnd (contents_of files file) AcceptsSealed
+Accepted files (Some (Link script)) = IsSomeAnd (contents_of files script) (AcceptsScript files)
 
 -- The words have a listed form, and the files that they name are accepted.
 abbrev pub IsAccepted : List (List ℕ) → Files → Type 0

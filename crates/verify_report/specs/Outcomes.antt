@@ -3,21 +3,15 @@ use Rattle.std.specs.Io.KnownBytes.{Appends}
 use Rattle.std.specs.declared.string.String.{String}
 use Rattle.std.specs.declared.alloc.Global.{Global}
 use Rattle.std.specs.Prelude.{◌≡◌, ◌≤◌, ◌⊎◌, ℕ, map, take, string_bytes, List, length, Option, IsSomeAnd, codes}
-use Rattle.verify_report.specs.declared.status.Status.{Status}
-use Rattle.verify_report.specs.declared.status.Status.TheVariants as status
-use Rattle.verify_report.specs.Reports.{Report, Command, Check, Show, Verify, Seal, Sealed, command_of, Steps}
-use Rattle.verify_report.specs.Lines.{line}
+use Rattle.report_lines.specs.declared.status.Status.{Status}
+use Rattle.report_lines.specs.declared.status.Status.TheVariants as status
+use Rattle.report_lines.specs.Reports.{Report}
+use Rattle.verify_report.specs.Reports.{Command, Check, Show, Verify, Seal, Sealed, Link, command_of, Steps}
+use Rattle.report_lines.specs.Lines.{line}
 
 -- The texts of words.
 abbrev pub texts : List (String Global) → List (List ℕ)
 texts words = map string_bytes words
-
--- A status that comes with a line about files.
-abbrev pub IsSpoken : Status → Type 0
-IsSpoken status.Good = Unit {0}
-IsSpoken status.Negative = Unit {0}
-IsSpoken status.Limit = Unit {0}
-IsSpoken _ = ⊥
 
 -- A status with which nothing is written.
 abbrev pub IsQuiet : Status → Type 0
@@ -52,6 +46,7 @@ IsVerify (Steps «module») = ⊥
 IsVerify (Verify «module» notes) = Unit {0}
 IsVerify (Seal «module» notes) = ⊥
 IsVerify (Sealed file) = Unit {0}
+IsVerify (Link script) = ⊥
 
 -- Words that ask for one.
 abbrev pub AskVerdict : List (List ℕ) → Type 0

@@ -1,15 +1,14 @@
 -- What a run may report: texts and statuses, by the words and the files.
-use Rattle.std.specs.Prelude.{◌≡◌, ◌<◌, ◌≤◌, ◌⊎◌, ℕ, List, [], ◌∷◌, length, Option, Some, None, if◌then◌else◌, Bool, true, false, codes, All}
+use Rattle.std.specs.Prelude.{◌≡◌, ◌⊎◌, ℕ, List, [], ◌∷◌, Option, Some, None, if◌then◌else◌, Bool, true, false, codes}
 use Rattle.std.specs.Str.{bytes_eq}
 use Rattle.wasm_syntax.specs.declared.module.Module.{Module}
 use Rattle.wasm_syntax.specs.declared.module.Marks.{Marks}
 use Rattle.binary_grammar.specs.declared.fault.DecodeFault.{DecodeFault}
-use Rattle.binary_grammar.specs.declared.fault.DecodeFault.TheVariants as decode
 use Rattle.binary_grammar.specs.Bounds.{the_bounds}
 use Rattle.binary_grammar.specs.ModuleGrammar.{Spells, InLimits}
 use Rattle.binary_grammar.specs.Plans.{Fault}
 use Rattle.wasm_typing.specs.declared.fault.ValidWord.{ValidWord}
-use Rattle.wasm_typing.specs.Valid.{Valid, BytesInRange}
+use Rattle.wasm_typing.specs.Valid.{Valid}
 use Rattle.wasm_typing.specs.faults.Faults.{InvalidAt}
 use Rattle.rw_edge.specs.Files.{contents_of}
 use Rattle.wasm_seal.specs.Sealed.{sealed_file, Split}
@@ -21,26 +20,15 @@ use Rattle.outline_check.specs.Refusals as outlines
 use Rattle.outline_check.specs.Outlines.{outline}
 use Rattle.first_reader.specs.ReadingNotes.{first_notes}
 use Rattle.module_listing.specs.Listing.{listing_text}
-use Rattle.verify_report.specs.declared.status.Status.{Status}
-use Rattle.verify_report.specs.declared.status.Status.TheVariants as status
-use Rattle.verify_report.specs.declared.report.Report as reports
-use Rattle.verify_report.specs.Lines.{line, failed_line, word_line, limit_line, malformed_line, invalid_line, bound_lines}
+use Rattle.report_lines.specs.declared.status.Status.{Status}
+use Rattle.report_lines.specs.declared.status.Status.TheVariants as status
+use Rattle.report_lines.specs.Lines.{line, word_line, limit_line}
+use Rattle.report_lines.specs.Reports.{Report, Files, module_limit, module_too_long, invalid_report, IsFaultReport, ReportsOf, OfFile}
+use Rattle.verify_report.specs.Lines.{failed_line, bound_lines}
+use Rattle.link_report.specs.Links.{OfLink}
 use Rattle.step_bound.specs.declared.bound.Bound.{Bound}
 use Rattle.step_bound.specs.Bounds.{imported_funcs}
 use Rattle.step_bound.specs.Told.{AreBoundsOf}
-
--- A report is a text and a status.
-pub record Report : Type 0 where
-  pub text : List ℕ
-  pub status : Status
-
--- What the code's report is.
-abbrev pub seen : reports.Report → Report
-seen r = record { text = r.text.items; status = r.status }
-
--- A module file has at most 4,194,304 bytes.
-abbrev pub module_limit : ℕ
-module_limit = 4194304
 
 -- A notes file has at most 16,777,216 bytes.
 abbrev pub notes_limit : ℕ
@@ -49,14 +37,6 @@ notes_limit = 16777216
 -- Words of no listed form.
 abbrev pub words_refused : Report
 words_refused = record { text = line (codes "words refused"); status = status.Words }
-
--- A file that is missing or can't be read.
-abbrev pub nothing_read : Report
-nothing_read = record { text = []; status = status.ReadFault }
-
--- A module file that is too long.
-abbrev pub module_too_long : Report
-module_too_long = record { text = limit_line word.Module module_limit; status = status.Limit }
 
 -- A notes file that is too long.
 abbrev pub notes_too_long : Report
@@ -105,26 +85,6 @@ abbrev pub noted : Module → Marks → Option Notes → Report
 noted m k None = unbuilt_notes
 noted m k (Some notes) = outlined (outline m k notes)
 
--- The bytes' fault: they are malformed, or a limit of the decoder is passed.
-abbrev pub IsFaultReport : DecodeFault → Report → Type 0
-IsFaultReport (decode.Malformed at w) r = r ≡ record { text = malformed_line w at; status = status.Negative }
-IsFaultReport (decode.Limit at w) r = r ≡ record { text = limit_line w at; status = status.Limit }
-IsFaultReport decode.OutOfMemory r = ⊥
-
--- The first fault of a module that isn't valid.
-abbrev pub invalid_report : ℕ → ValidWord → Report
-invalid_report at w = record { text = invalid_line w at; status = status.Negative }
-
--- What may be reported of something.
-abbrev pub ReportsOf : Type 0 → Type 1
-ReportsOf A = A → Report → Type 0
-
--- Of a file: it is missing, or too long, or else what Next says of its contents.
-unfoldable pub OfFile : ℕ → Report → ReportsOf (List ℕ) → ReportsOf (Option (List ℕ))
-OfFile limit too_long Next None r = r ≡ nothing_read
-OfFile limit too_long Next (Some contents) r =
-    ((limit < length contents) × (r ≡ too_long)) ⊎ ((length contents ≤ limit) × Next contents r)
-
 -- Of bytes: what Next says of the module and the marks that they spell within the limits, or else their fault.
 unfoldable pub OfBytes : (Module → Marks → Report → Type 0) → ReportsOf (List ℕ)
 OfBytes Next bytes r =
@@ -145,8 +105,8 @@ OfFirst text m k r = (IsFirst m × (r ≡ noted m k (first_notes text))) ⊎ ((I
 abbrev pub OfBounds : ReportsOf Module
 OfBounds m r = (bounds : List Bound) × AreBoundsOf m bounds × (r ≡ bounds_listed m bounds)
 
--- The listed forms of words: `check MODULE`, `show MODULE`, `steps MODULE`, `verify MODULE NOTES`, `seal MODULE NOTES` and
--- `sealed FILE`.
+-- The listed forms of words: `check MODULE`, `show MODULE`, `steps MODULE`, `verify MODULE NOTES`, `seal MODULE NOTES`,
+-- `sealed FILE` and `link SCRIPT`.
 pub data Command : Type 0 where
   Check : List ℕ → Command
   Show : List ℕ → Command
@@ -154,6 +114,7 @@ pub data Command : Type 0 where
   Verify : List ℕ → List ℕ → Command
   Seal : List ℕ → List ℕ → Command
   Sealed : List ℕ → Command
+  Link : List ℕ → Command
 
 -- The command that words are, if they have a listed form.
 abbrev pub command_of : List (List ℕ) → Option Command
@@ -161,19 +122,12 @@ command_of (word ∷ file ∷ []) =
     if bytes_eq word (codes "check") then Some (Check file) else
     (if bytes_eq word (codes "show") then Some (Show file) else
     (if bytes_eq word (codes "steps") then Some (Steps file) else
-    (if bytes_eq word (codes "sealed") then Some (Sealed file) else None)))
+    (if bytes_eq word (codes "sealed") then Some (Sealed file) else
+    (if bytes_eq word (codes "link") then Some (Link file) else None))))
 command_of (word ∷ «module» ∷ notes ∷ []) =
     if bytes_eq word (codes "verify") then Some (Verify «module» notes) else
     (if bytes_eq word (codes "seal") then Some (Seal «module» notes) else None)
 command_of _ = None
-
--- Files by name: each is its name and its contents.
-abbrev pub Files : Type 0
-Files = List (List ℕ × List ℕ)
-
--- What files hold are bytes.
-abbrev pub HoldBytes : Files → Type 0
-HoldBytes files = All (λ file. BytesInRange file.1) files
 
 -- Whether bytes spell a valid module.
 abbrev pub OfChecked : ReportsOf (List ℕ)
@@ -258,6 +212,7 @@ OfCommand files (Some (Steps «module»)) r = OfSteps files «module» r
 OfCommand files (Some (Verify «module» notes)) r = OfVerify files «module» notes r
 OfCommand files (Some (Seal «module» notes)) r = OfSeal files «module» notes r
 OfCommand files (Some (Sealed file)) r = OfSealed files file r
+OfCommand files (Some (Link script)) r = OfLink files script r
 
 -- The report of the words over the files; there is at most one, and one where the files hold bytes.
 abbrev pub IsReport : List (List ℕ) → Files → Report → Type 0

@@ -3,13 +3,11 @@
 ghost use Rattle.std.specs.Prelude.{◌≡◌, ◌<◌, ◌^◌, ◌++◌, OnOk, IfOk};
 ghost use Rattle.wasm_typing.specs.faults.Faults.{Marked};
 ghost use Rattle.verify_report.specs.Lines.{bound_text, bound_line, bound_lines};
-ghost use Rattle.verify_report.specs.Reports.{OfModule, OfBounds, OfBounded, seen};
-ghost use Rattle.verify_report.specs.Outcomes.{IsSpoken};
+ghost use Rattle.report_lines.specs.Reports.{seen, IsSpoken};
+ghost use Rattle.verify_report.specs.Reports.{OfModule, OfBounds, OfBounded};
 
-use crate::report::Report;
-use crate::stages::{faulty, invalid};
-use crate::status::Status;
 use binary_grammar::Decoded;
+use report_lines::{Report, Status, faulty, invalid};
 use std::alloc::{AllocError, Global};
 use step_bound::{Bound, imported_funcs, step_bounds};
 use wasm_binary::decode;

@@ -3,18 +3,18 @@
 ghost use Rattle.std.specs.Prelude.{◌≡◌, ◌≤◌, ◌⊎◌, length, Some, None, IfOk, IfSome, IsErrOf, IsSomeAnd, option_map};
 ghost use Rattle.rw_edge.specs.Count.{Faulted};
 ghost use Rattle.rw_edge.specs.Files.{contents_of};
-ghost use Rattle.verify_report.specs.Lines.{limit_line};
-ghost use Rattle.verify_report.specs.Reports.{OfCheck, OfShow, OfNotes, OfVerify, OfSealedNotes, OfSeal, OfSealed, sealed_too_long, OfCommand, IsReport, command_of, nothing_read, seen, OfSteps};
-ghost use Rattle.verify_report.specs.Outcomes.{IsSpoken, IsVerify, AskVerdict, texts, verified_text};
+ghost use Rattle.report_lines.specs.Lines.{limit_line};
+ghost use Rattle.report_lines.specs.Reports.{nothing_read, seen, IsSpoken};
+ghost use Rattle.verify_report.specs.Reports.{OfCheck, OfShow, OfNotes, OfVerify, OfSealedNotes, OfSeal, OfSealed, sealed_too_long, OfCommand, IsReport, command_of, OfSteps};
+ghost use Rattle.verify_report.specs.Outcomes.{IsVerify, AskVerdict, texts, verified_text};
 ghost use Rattle.verify_report.specs.words.Commands.{command_in};
 
 use crate::bounds::bounded;
 use crate::judge::judged;
-use crate::line::{limit_text, word_line};
-use crate::report::{Report, Stop};
 use crate::sealed::{judged_file, sealing};
 use crate::stages::{checked, shown};
-use crate::status::Status;
+use link_report::link;
+use report_lines::{Report, Status, Stop, unread, word_line};
 use rw_edge::{ReadFault, Shelf, read_file};
 use std::alloc::Global;
 use wasm_values::LimitWord;
@@ -27,22 +27,6 @@ pub(crate) const NOTES_LIMIT: usize = 16_777_216;
 
 /// The most bytes of a sealed file.
 const SEALED_LIMIT: usize = 20_971_538;
-
-// A file that was not read: too long, or another cause.
-fn unread(alloc: Global, fault: ReadFault, word: LimitWord, limit: usize) -> Result<Report, Stop>
-    ensures made { IfOk result (λ r. (fault ≡ ReadFault.TooLong) × (seen r ≡ record { text = limit_line word limit; status = Status.Limit })) }
-    ensures read { IsErrOf result Stop.Read → fault ≡ ReadFault.Failed }
-    ensures listed { IsErrOf result Stop.Words → ⊥ }
-{
-    match fault {
-        ReadFault::TooLong => Ok(Report {
-            text: word_line(alloc, b"limit", limit_text(word), limit)?,
-            status: Status::Limit,
-        }),
-        ReadFault::Failed => Err(Stop::Read),
-        ReadFault::OutOfMemory => Err(Stop::Memory),
-    }
-}
 
 // `check MODULE`: the module file and its length, and what it says.
 fn check<S: Shelf>(alloc: Global, module: &str, shelf: &mut S) -> Result<Report, Stop>
@@ -211,6 +195,7 @@ enum Asked<'a> {
     Verify(&'a str, &'a str),
     Seal(&'a str, &'a str),
     Sealed(&'a str),
+    Link(&'a str),
 }
 
 // The command that words are, if they have a listed form.
@@ -222,6 +207,7 @@ fn asked_by(words: &[String]) -> Option<Asked<'_>>
         [word, module] if word.as_str() == "show" => Some(Asked::Show(module.as_str())),
         [word, module] if word.as_str() == "steps" => Some(Asked::Steps(module.as_str())),
         [word, file] if word.as_str() == "sealed" => Some(Asked::Sealed(file.as_str())),
+        [word, script] if word.as_str() == "link" => Some(Asked::Link(script.as_str())),
         [word, module, notes] if word.as_str() == "verify" => {
             Some(Asked::Verify(module.as_str(), notes.as_str()))
         }
@@ -250,6 +236,7 @@ fn done<S: Shelf>(alloc: Global, command: Asked<'_>, shelf: &mut S) -> Result<Re
         Asked::Verify(module, notes) => verify(alloc, module, notes, shelf),
         Asked::Seal(module, notes) => seal(alloc, module, notes, shelf),
         Asked::Sealed(file) => sealed(alloc, file, shelf),
+        Asked::Link(script) => link(alloc, script, shelf),
     }
 }
 

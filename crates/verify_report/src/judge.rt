@@ -5,16 +5,14 @@ ghost use Rattle.outline_check.specs.Outlines.{outline};
 ghost use Rattle.outline_check.specs.First.{IsFirst};
 ghost use Rattle.first_reader.specs.ReadingNotes.{first_notes};
 ghost use Rattle.wasm_typing.specs.faults.Faults.{Marked};
-ghost use Rattle.verify_report.specs.Reports.{OfFirst, OfModule, OfJudged, seen, outlined, noted};
-ghost use Rattle.verify_report.specs.Outcomes.{IsSpoken};
+ghost use Rattle.report_lines.specs.Reports.{seen, IsSpoken};
+ghost use Rattle.verify_report.specs.Reports.{OfFirst, OfModule, OfJudged, outlined, noted};
 
-use crate::line::{failed_line, limit_text, word_line};
-use crate::report::{Report, fixed, negative};
-use crate::stages::{faulty, invalid};
-use crate::status::Status;
+use crate::line::failed_line;
 use binary_grammar::Decoded;
 use first_reader::{ReadError, is_first, read_notes};
 use outline_check::{Answer, CheckFault, Notes, check_module};
+use report_lines::{Report, Status, faulty, fixed, invalid, limited, negative};
 use std::alloc::Global;
 use wasm_binary::decode;
 use wasm_syntax::{Marks, Module};
@@ -45,10 +43,7 @@ fn outlined(
             let text = failed_line(alloc, at, function, reason)?;
             Ok(negative(text))
         }
-        Err(CheckFault::Limit { at, word }) => Ok(Report {
-            text: word_line(alloc, b"limit", limit_text(word), at)?,
-            status: Status::Limit,
-        }),
+        Err(CheckFault::Limit { at, word }) => limited(alloc, word, at),
         Err(CheckFault::OutOfMemory) => Err(OutOfMemory),
     }
 }

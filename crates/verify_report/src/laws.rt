@@ -3,8 +3,9 @@
 ghost use Rattle.std.specs.Prelude.{◌≡◌, ◌≤◌, ◌↔◌, ℕ, List, [], ◌∷◌, length, Some, codes};
 ghost use Rattle.rw_edge.specs.Files.{contents_of};
 ghost use Rattle.wasm_seal.specs.Sealed.{Split};
-ghost use Rattle.verify_report.specs.declared.status.Status.TheVariants as status;
-ghost use Rattle.verify_report.specs.Reports.{Report, Files, HoldBytes, IsReport};
+ghost use Rattle.report_lines.specs.declared.status.Status.TheVariants as status;
+ghost use Rattle.report_lines.specs.Reports.{Report, Files, HoldBytes};
+ghost use Rattle.verify_report.specs.Reports.{IsReport};
 ghost use Rattle.verify_report.specs.Outcomes.{verified_text};
 
 use wasm_seal::{sealed_files, sealed_length};

@@ -2,15 +2,14 @@
 
 ghost use Rattle.std.specs.Prelude.{◌≡◌, ◌≤◌, length, IfOk, OnOk};
 ghost use Rattle.wasm_values.specs.declared.limit.LimitWord.{LimitWord};
-ghost use Rattle.verify_report.specs.Lines.{limit_line};
-ghost use Rattle.verify_report.specs.Reports.{OfSealing, OfParts, OfSplit, sealing, sealed_too_long, seen};
-ghost use Rattle.verify_report.specs.Outcomes.{IsSpoken, verified_text};
+ghost use Rattle.report_lines.specs.Lines.{limit_line};
+ghost use Rattle.report_lines.specs.Reports.{seen, IsSpoken};
+ghost use Rattle.verify_report.specs.Reports.{OfSealing, OfParts, OfSplit, sealing, sealed_too_long};
+ghost use Rattle.verify_report.specs.Outcomes.{verified_text};
 
 use crate::commands::{MODULE_LIMIT, NOTES_LIMIT};
 use crate::judge::judged;
-use crate::line::{limit_text, word_line};
-use crate::report::{Report, fixed};
-use crate::status::Status;
+use report_lines::{Report, Status, fixed, limited};
 use std::alloc::Global;
 use wasm_seal::{seal_bytes, split};
 use wasm_values::{LimitWord, OutOfMemory};
@@ -53,17 +52,6 @@ pub fn sealing(alloc: Global, bytes: &[u8], notes: &[u8]) -> Result<Report, OutO
     }
 }
 
-// A part that is too long.
-fn too_long(alloc: Global, word: LimitWord, limit: usize) -> Result<Report, OutOfMemory>
-    ensures made { IfOk result (λ r. seen r ≡ record { text = limit_line word limit; status = Status.Limit }) }
-    ensures spoken { IfOk result (λ r. IsSpoken r.status) }
-{
-    Ok(Report {
-        text: word_line(alloc, b"limit", limit_text(word), limit)?,
-        status: Status::Limit,
-    })
-}
-
 // The two parts of a file.
 fn judged_parts(alloc: Global, bytes: &[u8], notes: &[u8]) -> Result<Report, OutOfMemory>
     ensures made { IfOk result (λ r. OfParts bytes.now notes.now (seen r)) }
@@ -71,10 +59,10 @@ fn judged_parts(alloc: Global, bytes: &[u8], notes: &[u8]) -> Result<Report, Out
     ensures spoken { IfOk result (λ r. IsSpoken r.status) }
 {
     if MODULE_LIMIT < bytes.len() {
-        return too_long(alloc, LimitWord::Module, MODULE_LIMIT);
+        return limited(alloc, LimitWord::Module, MODULE_LIMIT);
     }
     if NOTES_LIMIT < notes.len() {
-        return too_long(alloc, LimitWord::Notes, NOTES_LIMIT);
+        return limited(alloc, LimitWord::Notes, NOTES_LIMIT);
     }
     judged(alloc, bytes, notes)
 }

@@ -1,47 +1,18 @@
 // What is said of bytes, and of the module that they spell.
 
 ghost use Rattle.std.specs.Prelude.{◌≡◌, IfOk};
-ghost use Rattle.verify_report.specs.Reports.{IsFaultReport, OfModule, OfChecked, OfShown, invalid_report, module_valid, module_listed, seen};
-ghost use Rattle.verify_report.specs.Outcomes.{IsSpoken};
+ghost use Rattle.report_lines.specs.Reports.{IsFaultReport, invalid_report, seen, IsSpoken};
+ghost use Rattle.verify_report.specs.Reports.{OfModule, OfChecked, OfShown, module_valid, module_listed};
 ghost use Rattle.wasm_typing.specs.faults.Faults.{Marked};
 
-use crate::line::{decode_text, limit_text, valid_text, word_line};
-use crate::report::{Report, fixed, negative};
-use crate::status::Status;
-use binary_grammar::{DecodeFault, Decoded};
+use binary_grammar::Decoded;
 use module_listing::listing;
+use report_lines::{Report, Status, faulty, fixed, invalid};
 use std::alloc::Global;
 use wasm_binary::decode;
 use wasm_syntax::{Marks, Module};
-use wasm_validate::{ValidFault, ValidModule, ValidWord, validate};
+use wasm_validate::{ValidFault, ValidModule, validate};
 use wasm_values::OutOfMemory;
-
-/// The bytes' fault.
-pub fn faulty(alloc: Global, fault: DecodeFault) -> Result<Report, OutOfMemory>
-    ensures made { IfOk result (λ r. IsFaultReport fault (seen r)) }
-    ensures spoken { IfOk result (λ r. IsSpoken r.status) }
-{
-    match fault {
-        DecodeFault::Malformed { at, word } => {
-            let text = word_line(alloc, b"malformed", decode_text(word), at)?;
-            Ok(negative(text))
-        }
-        DecodeFault::Limit { at, word } => Ok(Report {
-            text: word_line(alloc, b"limit", limit_text(word), at)?,
-            status: Status::Limit,
-        }),
-        DecodeFault::OutOfMemory => Err(OutOfMemory),
-    }
-}
-
-/// A module's first fault.
-pub fn invalid(alloc: Global, at: usize, word: ValidWord) -> Result<Report, OutOfMemory>
-    ensures made { IfOk result (λ r. seen r ≡ invalid_report at word) }
-    ensures spoken { IfOk result (λ r. IsSpoken r.status) }
-{
-    let text = word_line(alloc, b"invalid", valid_text(word), at)?;
-    Ok(negative(text))
-}
 
 // What is said of a valid module.
 fn accepted(alloc: Global, _valid: &ValidModule) -> Result<Report, OutOfMemory>

@@ -1,7 +1,7 @@
 use Rattle.std.proofs.Common.{Ok, Err, ap}
-use Rattle.verify_report.specs.Reports.{OfChecked, module_limit, module_too_long}
-use Rattle.verify_report.proofs.ReportLaws.{read_alone, file_unread, not_read}
-use Rattle.verify_report.proofs.Verdicts.{unread_spoken}
+use Rattle.report_lines.specs.Reports.{module_limit, module_too_long}
+use Rattle.verify_report.specs.Reports.{OfChecked}
+use Rattle.report_lines.proofs.FileRead.{read_alone, file_unread, not_read, unread_spoken}
 use Rattle.verify_report.proofs.commands.check.Goals as goal
 
 pub returns-in_ok-checked-in-Ok-clause-made : goal.returns-in_ok-checked-in-Ok-clause-made

@@ -1,8 +1,8 @@
 use Rattle.std.proofs.Common.{Err, ap}
 use Rattle.rw_edge.specs.Files.{contents_of}
-use Rattle.verify_report.specs.Reports.{OfSealedNotes, module_limit, module_too_long}
-use Rattle.verify_report.proofs.ReportLaws.{read_made, second_not_read, file_unread, not_read}
-use Rattle.verify_report.proofs.Verdicts.{unread_spoken}
+use Rattle.report_lines.specs.Reports.{module_limit, module_too_long}
+use Rattle.verify_report.specs.Reports.{OfSealedNotes}
+use Rattle.report_lines.proofs.FileRead.{read_made, second_not_read, file_unread, not_read, unread_spoken}
 use Rattle.verify_report.proofs.commands.seal.Goals as goal
 
 pub returns-in-Ok-clause-made : goal.returns-in-Ok-clause-made

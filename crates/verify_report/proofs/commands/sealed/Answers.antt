@@ -1,7 +1,7 @@
 use Rattle.std.proofs.Common.{Ok, Err, ap}
 use Rattle.verify_report.specs.Reports.{OfSplit, sealed_limit, sealed_too_long}
-use Rattle.verify_report.proofs.ReportLaws.{read_alone, file_unread, not_read}
-use Rattle.verify_report.proofs.Verdicts.{unread_spoken, unread_verdict}
+use Rattle.report_lines.proofs.FileRead.{read_alone, file_unread, not_read, unread_spoken}
+use Rattle.verify_report.proofs.Verdicts.{unread_verdict}
 use Rattle.verify_report.proofs.commands.sealed.Goals as goal
 
 pub returns-in_ok-judged_file-in-Ok-clause-made : goal.returns-in_ok-judged_file-in-Ok-clause-made

@@ -1,7 +1,6 @@
 use Rattle.std.proofs.Common.{Ok, Err, ap}
 use Rattle.verify_report.specs.Reports.{OfSealing, notes_limit, notes_too_long}
-use Rattle.verify_report.proofs.ReportLaws.{read_alone, file_unread, not_read}
-use Rattle.verify_report.proofs.Verdicts.{unread_spoken}
+use Rattle.report_lines.proofs.FileRead.{read_alone, file_unread, not_read, unread_spoken}
 use Rattle.verify_report.proofs.commands.sealed_notes.Goals as goal
 
 pub returns-in_ok-sealing-in-Ok-clause-made : goal.returns-in_ok-sealing-in-Ok-clause-made

@@ -1,8 +1,9 @@
 use Rattle.std.proofs.Common.{Err, ap}
 use Rattle.rw_edge.specs.Files.{contents_of}
-use Rattle.verify_report.specs.Reports.{OfNotes, module_limit, module_too_long}
-use Rattle.verify_report.proofs.ReportLaws.{read_made, second_not_read, file_unread, not_read}
-use Rattle.verify_report.proofs.Verdicts.{unread_spoken, unread_verdict}
+use Rattle.report_lines.specs.Reports.{module_limit, module_too_long}
+use Rattle.verify_report.specs.Reports.{OfNotes}
+use Rattle.report_lines.proofs.FileRead.{read_made, second_not_read, file_unread, not_read, unread_spoken}
+use Rattle.verify_report.proofs.Verdicts.{unread_verdict}
 use Rattle.verify_report.proofs.commands.verify.Goals as goal
 
 pub returns-in-Ok-clause-made : goal.returns-in-Ok-clause-made

@@ -1,5 +1,5 @@
 use Rattle.std.proofs.Common.{◌≡◌, List, ℕ, ◌++◌, ap, ◌∙◌, append_assoc}
-use Rattle.verify_report.proofs.line.word_line.Goals as goal
+use Rattle.report_lines.proofs.line.word_line.Goals as goal
 
 -- parts that were appended one by one
 joined : (t u v w x y cause colon word at printed place end : List ℕ) → t ≡ cause → u ≡ t ++ colon → v ≡ u ++ word → w ≡ v ++ at → x ≡ w ++ printed → printed ≡ place → y ≡ x ++ end →

@@ -1,5 +1,5 @@
 ghost use Rattle.std.specs.Prelude.{◌≡◌};
-ghost use Rattle.verify_report.specs.Statuses.{code_of};
+ghost use Rattle.report_lines.specs.Statuses.{code_of};
 
 /// What a run comes to.
 #[derive(Clone, Copy, Debug, PartialEq, Eq)]

@@ -1,7 +1,7 @@
 -- The statuses of a run.
 use Rattle.std.specs.Prelude.{ℕ}
-use Rattle.verify_report.specs.declared.status.Status.{Status}
-use Rattle.verify_report.specs.declared.status.Status.TheVariants as status
+use Rattle.report_lines.specs.declared.status.Status.{Status}
+use Rattle.report_lines.specs.declared.status.Status.TheVariants as status
 
 -- The exit codes 0 to 6, in the order of the statuses.
 abbrev pub code_of : Status → ℕ

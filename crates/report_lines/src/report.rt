@@ -1,6 +1,5 @@
 ghost use Rattle.std.specs.Prelude.{◌≡◌, IfOk};
-ghost use Rattle.verify_report.specs.Reports.{seen};
-ghost use Rattle.verify_report.specs.Outcomes.{IsSpoken};
+ghost use Rattle.report_lines.specs.Reports.{IsSpoken, seen};
 
 use crate::status::Status;
 use std::alloc::{AllocError, Global};
@@ -26,7 +25,7 @@ pub enum Stop {
 }
 
 impl From<OutOfMemory> for Stop {
-    ghost use Rattle.verify_report.specs.declared.report.Stop.TheVariants.{Memory};
+    ghost use Rattle.report_lines.specs.declared.report.Stop.TheVariants.{Memory};
 
     ghost from_gives = { λ _ stop. stop ≡ Memory };
 
@@ -36,7 +35,7 @@ impl From<OutOfMemory> for Stop {
 }
 
 impl From<AllocError> for Stop {
-    ghost use Rattle.verify_report.specs.declared.report.Stop.TheVariants.{Memory};
+    ghost use Rattle.report_lines.specs.declared.report.Stop.TheVariants.{Memory};
 
     ghost from_gives = { λ _ stop. stop ≡ Memory };
 

@@ -1,0 +1,4 @@
+pub mod FileOnce
+pub mod FileSome
+pub mod FileRead
+pub mod FileGood
