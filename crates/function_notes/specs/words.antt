@@ -1,0 +1,2 @@
+-- What is kept beside the notes.
+pub mod Kept
