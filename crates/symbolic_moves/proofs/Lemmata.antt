@@ -1,5 +1,5 @@
 -- Lemmas that are found, and facts that are their hypotheses.
-use Rattle.std.proofs.Common.{◌≡◌, ℕ, ◌+◌, ◌<◌, ◌≤◌, Bool, true, false, ◌&&◌, List, [], ◌∷◌, ◌++◌, length, map, drop, get_or, All, Option, Some, None, IfSome, IsTrue, refl, sym, ap, ◌∙◌, arith}
+use Rattle.std.proofs.Common.{◌≡◌, ℕ, ◌+◌, ◌<◌, ◌≤◌, Bool, true, false, List, [], ◌∷◌, ◌++◌, length, map, drop, get_or, All, Option, Some, None, IfSome, IsTrue, refl, sym, ap, ◌∙◌, arith}
 use Rattle.std.specs.Prelude.{find, if◌then◌else◌, Ok, Err}
 use Rattle.std.proofs.lemmas.List.{drop_more, map-append}
 use Rattle.std.proofs.lemmas.List.Elements.{All-nil, All-push}
@@ -9,8 +9,7 @@ use Rattle.term_trees.proofs.Truths.{both}
 use Rattle.term_trees.specs.declared.term.Formula.{Formula}
 use Rattle.term_trees.specs.Formulas.{well_formed_formula}
 use Rattle.notes.specs.declared.outline.Lemma.{Lemma}
-use Rattle.notes.specs.declared.outline.Notes.{Notes}
-use Rattle.notes.specs.WellFormed.{well_formed_assertion, well_formed_initial, well_formed_func, well_formed_step, well_formed_lemma, well_formed_notes}
+use Rattle.notes.specs.WellFormed.{well_formed_assertion, well_formed_initial, well_formed_func, well_formed_lemma, well_formed_notes}
 use Rattle.outline_rules.specs.Settings.{Setting, lemma_named}
 use Rattle.outline_rules.specs.Refusals.{Refusal, ◌>>=◌}
 use Rattle.outline_rules.specs.States.{State}

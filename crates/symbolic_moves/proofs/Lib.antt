@@ -1,3 +1,5 @@
 pub mod Walks
 pub mod Lemmata
 pub mod StepWalks
+pub mod Moving
+pub mod Celled
