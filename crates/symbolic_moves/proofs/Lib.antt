@@ -1,4 +1,3 @@
-pub mod Walks
 pub mod Lemmata
 pub mod StepWalks
 pub mod Moving

@@ -18,8 +18,9 @@ use Rattle.outline_rules.specs.States.{State}
 use Rattle.symbolic_state.specs.States.{Tracked}
 use Rattle.symbolic_state.specs.Growth.{Grown}
 use Rattle.symbolic_state.proofs.Grows.{grown-same, grown-then}
-use Rattle.symbolic_moves.proofs.Walks.{behind, walk-start, walk-next, walk-stop, walk-end}
-use Rattle.symbolic_moves.specs.words.Walks.{all_by, step_taken, subs_taken, parts_taken}
+use Rattle.symbolic_state.proofs.Walks.{behind, walk-start, walk-next, walk-stop, walk-end}
+use Rattle.symbolic_state.specs.words.Walks.{all_by}
+use Rattle.symbolic_moves.specs.words.Walks.{step_taken, subs_taken, parts_taken}
 
 -- ---- one after another
 

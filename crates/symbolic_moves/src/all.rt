@@ -37,7 +37,6 @@ pub fn make_move(
         Move::Heap(m) => state.apply_heap_move(m),
         Move::Each(c, f, steps) => each(alloc, state, *c, f, steps),
         Move::Lemma(named, terms, facts) => lemma(
-            alloc,
             setting,
             state,
             named.as_str(),

@@ -3,7 +3,7 @@ use Rattle.std.proofs.Common.{◌≡◌, ℕ, ◌+◌, ◌<◌, ◌≤◌, List,
 use Rattle.std.specs.Prelude.{Ok, Err}
 use Rattle.std.proofs.lemmas.List.{append-nil, append_assoc, drop_more, drop_all}
 use Rattle.outline_rules.specs.Refusals.{Ruling, Refusal, ◌>>=◌}
-use Rattle.symbolic_moves.specs.words.Walks.{all_by}
+use Rattle.symbolic_state.specs.words.Walks.{all_by}
 
 -- what comes of the rest, behind what is done
 abbrev pub behind : {B : Type 0} → List B → Ruling (List B) → Ruling (List B)
