@@ -5,6 +5,8 @@ pub mod Counting
 pub mod Settling
 pub mod Made
 pub mod Placed
+pub mod Assertions
+pub mod Parts
 pub mod Replacing
 pub mod Grows
 pub mod Taken
