@@ -5,8 +5,8 @@ pub mod Counting
 pub mod Settling
 pub mod Made
 pub mod Placed
-pub mod Assertions
-pub mod Parts
+pub mod AssertionLeaves
+pub mod AssertionParts
 pub mod Replacing
 pub mod Grows
 pub mod Taken

@@ -39,7 +39,7 @@ pub struct AssertionTerms<'a> {
 }
 
 /// A formula with its leaves replaced, within the limit.
-#[tactic(auto, using(crate::proofs::Parts::formulas))]
+#[tactic(auto, using(crate::proofs::AssertionParts::formulas))]
 fn put_formula(
     table: &mut TermTable,
     f: &Formula,
@@ -98,7 +98,7 @@ fn has_small_parts(table: &TermTable, chunk: &Chunk, leaves: &LeafIds<'_>) -> bo
 }
 
 /// Two terms with their leaves replaced, which are within the limit.
-#[tactic(auto, using(crate::proofs::Parts::over_longer))]
+#[tactic(auto, using(crate::proofs::AssertionParts::over_longer))]
 fn put_two(
     table: &mut TermTable,
     a: &Term,
@@ -119,7 +119,7 @@ fn put_two(
 }
 
 /// The terms and the formula of a row with their leaves replaced, which are within the limit.
-#[tactic(auto, using(crate::proofs::Parts::over_longer))]
+#[tactic(auto, using(crate::proofs::AssertionParts::over_longer))]
 fn put_row(
     table: &mut TermTable,
     at: &Term,
@@ -186,7 +186,7 @@ fn put_parts(
 }
 
 /// A chunk with its leaves replaced, each part within the limit.
-#[tactic(auto, using(crate::proofs::Parts::chunks))]
+#[tactic(auto, using(crate::proofs::AssertionParts::chunks))]
 fn put_chunk(
     table: &mut TermTable,
     chunk: &Chunk,
@@ -206,7 +206,7 @@ fn put_chunk(
 }
 
 /// A formula of an assertion over a state, its leaves replaced, within the limit.
-#[tactic(auto, using(crate::proofs::Assertions::over))]
+#[tactic(auto, using(crate::proofs::AssertionLeaves::over))]
 fn formula_over(
     table: &mut TermTable,
     state: &SymState,
@@ -225,7 +225,7 @@ fn formula_over(
 }
 
 /// A chunk of an assertion over a state, its leaves replaced, each part within the limit.
-#[tactic(auto, using(crate::proofs::Assertions::over))]
+#[tactic(auto, using(crate::proofs::AssertionLeaves::over))]
 fn chunk_over(
     table: &mut TermTable,
     state: &SymState,
@@ -297,7 +297,7 @@ impl TrackedState {
     }
 
     /// One more chunk: one of an assertion, its leaves replaced.
-    #[tactic(auto, using(crate::proofs::Parts::chunk_instances, crate::proofs::Grows::grown))]
+    #[tactic(auto, using(crate::proofs::AssertionParts::chunk_instances, crate::proofs::Grows::grown))]
     pub fn add_chunk_of(
         &mut self,
         chunk: &Chunk,
@@ -313,7 +313,7 @@ impl TrackedState {
     }
 
     /// A chunk as it stands, each part within the limit.
-    #[tactic(auto, using(crate::proofs::Growing::growing, crate::proofs::Grows::grown_over, crate::proofs::Parts::no_leaf))]
+    #[tactic(auto, using(crate::proofs::Growing::growing, crate::proofs::Grows::grown_over, crate::proofs::AssertionParts::no_leaf))]
     fn put_whole_chunk(&mut self, chunk: &Chunk) -> Result<IdChunk, Refused>
         requires { IsTrue (well_formed_chunk chunk.now) }
         ensures put { Gives refusal_of (chunk_of self.new.terms) result (small_chunk chunk.now) }
@@ -326,7 +326,7 @@ impl TrackedState {
     }
 
     /// One more chunk, as it stands.
-    #[tactic(auto, using(crate::proofs::Parts::chunk_instances, crate::proofs::Grows::grown))]
+    #[tactic(auto, using(crate::proofs::AssertionParts::chunk_instances, crate::proofs::Grows::grown))]
     pub fn add_whole_chunk(&mut self, chunk: &Chunk) -> Result<(), Refused>
         requires { IsTrue (well_formed_chunk chunk.now) }
         ensures done { Gives refusal_of (λ _. self.new.state) result (chunk_added chunk.now self.old.state) }

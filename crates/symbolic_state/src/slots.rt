@@ -83,7 +83,7 @@ impl TrackedState {
     }
 
     /// The leaves of an assertion over the state, whose own variables, `(arg i)` and `(result)` have these terms.
-    #[tactic(auto, using(crate::proofs::Assertions::over))]
+    #[tactic(auto, using(crate::proofs::AssertionLeaves::over))]
     pub fn assertion_slots<'a>(
         &'a self,
         own: &'a [TermId],
