@@ -13,11 +13,12 @@ taking_part part gs = filter (λ g. part g.0) gs
 
 pub globals-of-part : (part : ℕ → Bool) (gs : List (ℕ × ValType)) (s : State) → globals_renewed (λ k. true) (taking_part part gs) s ≡ globals_renewed part gs s
 globals-of-part part [] s = refl
-globals-of-part part (g ∷ gs) s = by_part (part g.0)
+globals-of-part part (g ∷ gs) s = by_part (part g.0) (globals-of-part part gs)
   where
-    by_part : (b : Bool) → globals_renewed (λ k. true) (cond b (g ∷ taking_part part gs) (taking_part part gs)) s ≡ ((if b then global_renewed g.0 g.1 s else Ok s) >>= globals_renewed part gs)
-    by_part true = λ j. global_renewed g.0 g.1 s >>= λ t. globals-of-part part gs t j
-    by_part false = globals-of-part part gs s
+    by_part : (b : Bool) → ((t : State) → globals_renewed (λ k. true) (taking_part part gs) t ≡ globals_renewed part gs t)
+        → globals_renewed (λ k. true) (cond b (g ∷ taking_part part gs) (taking_part part gs)) s ≡ ((if b then global_renewed g.0 g.1 s else Ok s) >>= globals_renewed part gs)
+    by_part true rest = λ j. global_renewed g.0 g.1 s >>= λ t. rest t j
+    by_part false rest = rest s
 
 -- The renewal by the globals that take part alone is that by all globals, of which those take part.
 pub renewed-of-part : (part : ℕ → Bool) (r : Renewing) (a : Assertion) (s : State)
