@@ -5,8 +5,6 @@ pub mod Counting
 pub mod Settling
 pub mod Made
 pub mod Placed
-pub mod AssertionLeaves
-pub mod AssertionParts
 pub mod Replacing
 pub mod Grows
 pub mod Taken
@@ -19,3 +17,8 @@ pub mod Restored
 pub mod HeapMoved
 pub mod Sized
 pub mod Remembered
+pub mod LeftOver
+pub mod Walks
+pub mod Takes
+pub mod AssertionLeaves
+pub mod AssertionParts

@@ -24,14 +24,14 @@ pub record AreSlotsOf (s : SymState) (l : LeafIds) : Type 0 where
   pub item : l.item ≡ None
 
 -- the leaves are those of an assertion over a state, with terms for own variables, for `(arg i)` and for `(result)`
-pub record AreLeavesOf (s : SymState) (own args : List ℕ) (answer : Option ℕ) (l : LeafIds) : Type 0 where
+pub record AreLeavesOf (s : SymState) (owned given : List ℕ) (answer : Option ℕ) (l : LeafIds) : Type 0 where
   pub variables : l.variables.now ≡ []
-  pub own : l.own.now ≡ own
+  pub own : l.own.now ≡ owned
   pub locals : l.locals.now ≡ s.locals
   pub stack : l.stack.now ≡ s.stack
   pub globals : l.globals.now ≡ s.globals
   pub pages : l.pages ≡ s.pages
-  pub args : l.args.now ≡ args
+  pub args : l.args.now ≡ given
   pub result : l.result ≡ answer
   pub index : l.index ≡ None
   pub item : l.item ≡ None
