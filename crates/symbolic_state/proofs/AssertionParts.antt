@@ -1,5 +1,5 @@
 -- Formulas and chunks that are made from an assertion, within their limits.
-use Rattle.std.proofs.Common.{◌≡◌, ℕ, ◌+◌, ◌≤◌, ◌<◌, Bool, true, false, ◌&&◌, List, [], ◌∷◌, length, IsTrue, refl, sym, ap, ◌∙◌, arith}
+use Rattle.std.proofs.Common.{◌≡◌, ℕ, ◌+◌, ◌≤◌, ◌<◌, Bool, true, false, ◌&&◌, List, [], ◌∷◌, length, Option, Some, None, IfSome, IsTrue, refl, sym, ap, ◌∙◌, arith}
 use Rattle.std.specs.Prelude.{nat_le, Ok, Err}
 use Rattle.std.specs.List.{list_all}
 use Rattle.std.proofs.lemmas.Bool.{lt-leb, le-leb, leb-true}
@@ -82,6 +82,11 @@ chunk-refused c s e is =
     let rest : Ruling State = limits true (s.vars + 0) (length s.facts + 0) (length s.chunks + 1) (nodes_of s + chunk_nodes c) >> Ok (with_more_chunks (c ∷ []) s) in
     chunk-added-is c s ∙ ap (λ b. limited limit.Nodes b >> rest) (parts-are c) ∙ refused-by (small_parts c) c rest e is
 
+-- the same where the refusal is told or not
+pub chunk-refused-by : (c : Chunk) (s : State) (o : Option Refusal) → IfSome o (λ e. small_chunk c ≡ Err e) → IfSome o (λ e. chunk_added c s ≡ Err e)
+chunk-refused-by c s None is = tt
+chunk-refused-by c s (Some e) is = chunk-refused c s e is
+
 pub chunk-is : (c d : Chunk) → small_chunk c ≡ Ok d → c ≡ d
 chunk-is c d is = by_test (small_parts c) is
   where
@@ -101,4 +106,3 @@ chunk-stays (Row width at count each) = λ j. Row width (term_stays at j) (term_
 pub chunk-same : (l : Leaves) → l ≡ no_leaves → (c : Chunk) → replaced_chunk l c ≡ c
 chunk-same l is c = ap (λ k. replaced_chunk k c) is ∙ chunk-stays c
 
-pub ruleset no_leaf = (chunk-same)

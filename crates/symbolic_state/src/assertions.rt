@@ -297,7 +297,7 @@ impl TrackedState {
     }
 
     /// One more chunk: one of an assertion, its leaves replaced.
-    #[tactic(auto, using(crate::proofs::AssertionParts::chunk_instances, crate::proofs::Grows::grown))]
+    #[tactic(auto, using(crate::proofs::AssertionParts::chunk_instances))]
     pub fn add_chunk_of(
         &mut self,
         chunk: &Chunk,
@@ -313,7 +313,7 @@ impl TrackedState {
     }
 
     /// A chunk as it stands, each part within the limit.
-    #[tactic(auto, using(crate::proofs::Growing::growing, crate::proofs::Grows::grown_over, crate::proofs::AssertionParts::no_leaf))]
+    #[tactic(auto, using(crate::proofs::Growing::growing, crate::proofs::Grows::grown_over))]
     fn put_whole_chunk(&mut self, chunk: &Chunk) -> Result<IdChunk, Refused>
         requires { IsTrue (well_formed_chunk chunk.now) }
         ensures put { Gives refusal_of (chunk_of self.new.terms) result (small_chunk chunk.now) }
@@ -326,7 +326,7 @@ impl TrackedState {
     }
 
     /// One more chunk, as it stands.
-    #[tactic(auto, using(crate::proofs::AssertionParts::chunk_instances, crate::proofs::Grows::grown))]
+    #[tactic(auto, using(crate::proofs::AssertionParts::chunk_instances))]
     pub fn add_whole_chunk(&mut self, chunk: &Chunk) -> Result<(), Refused>
         requires { IsTrue (well_formed_chunk chunk.now) }
         ensures done { Gives refusal_of (λ _. self.new.state) result (chunk_added chunk.now self.old.state) }
