@@ -50,7 +50,7 @@ left-from part k es s low = at_place es k low k
 
 module _ (old mid : Tracked) (part : ℕ → Bool) (k : ℕ) (so_far : Locals old mid part k) where
   pub locals-end : length old.state.locals ≤ k → locals_renewed part 0 old.state.locals old.state ≡ Ok mid.state
-  locals-end high = so_far.whole ∙ ap (λ es. locals_renewed part k es mid.state) (drop_all old.state.locals k high)
+  locals-end high = so_far.whole ∙ ap (λ es. locals_renewed part k es mid.state) (drop_all k old.state.locals high)
 
   module _ (low : k < length old.state.locals) where
     same-type : option_map (λ e. e.0) (slice_get mid.state.locals k) ≡ option_map (λ e. e.0) (slice_get old.state.locals k)

@@ -23,4 +23,4 @@ module _ {A : Type 0} (step : A → State → Ruling State) where
       going-stop e fails = here ∙ ap (λ r. r >>= all_gone (drop (i + 1) xs)) fails
 
     pub going-end : length xs ≤ i → whole ≡ Ok s
-    going-end high = is ∙ ap (λ l. all_gone l s) (drop_all xs i high)
+    going-end high = is ∙ ap (λ l. all_gone l s) (drop_all i xs high)

@@ -1,6 +1,6 @@
 // Assertions that are known, with fresh variables for their own.
 
-ghost use Rattle.std.specs.Prelude.{◌≡◌, ◌+◌, ◌<◌, ◌≤◌, ◌++◌, length, map, option_map, IfOk, IfSome, IsTrue};
+ghost use Rattle.std.specs.Prelude.{◌≡◌, ◌+◌, ◌<◌, ◌≤◌, ◌++◌, [], length, map, option_map, IfOk, IfSome, IsTrue};
 ghost use Rattle.std.specs.List.{All, list_all};
 ghost use Rattle.wasm_values.specs.Answers.{Gives};
 ghost use Rattle.term_trees.specs.Formulas.{well_formed_formula};
@@ -102,7 +102,7 @@ fn own_added(
 }
 
 /// Formulas of an assertion are facts, one after another.
-#[tactic(auto, using(crate::proofs::Assuming::facts))]
+#[tactic(auto, using(crate::proofs::Assumed::facts))]
 fn assume_facts(
     state: &mut TrackedState,
     formulas: &[Formula],
@@ -122,7 +122,7 @@ fn assume_facts(
 }
 
 /// Chunks of an assertion are appended, one after another.
-#[tactic(auto, using(crate::proofs::Assuming::chunks))]
+#[tactic(auto, using(crate::proofs::Assumed::chunks))]
 fn append_chunks(
     state: &mut TrackedState,
     chunks: &[Chunk],
@@ -140,7 +140,7 @@ fn append_chunks(
 }
 
 /// The formulas and chunks of an assertion are known.
-#[tactic(auto, using(symbolic_state::proofs::Grows::grown, crate::proofs::Assuming::parts))]
+#[tactic(auto, using(symbolic_state::proofs::Grows::grown))]
 fn assume_parts(
     state: &mut TrackedState,
     assertion: &Assertion,
@@ -180,7 +180,7 @@ pub fn assume(
 }
 
 /// Chunks are added as they stand, one after another.
-#[tactic(auto, using(crate::proofs::Assuming::whole_chunks))]
+#[tactic(auto, using(crate::proofs::Assumed::whole_chunks))]
 pub fn assume_chunks(state: &mut TrackedState, chunks: &[Chunk]) -> Result<(), Refused>
     requires { IsTrue (list_all well_formed_chunk chunks.now) }
     ensures done { Gives refusal_of (λ _. state.new.state) result (chunks_added chunks.now state.old.state) }

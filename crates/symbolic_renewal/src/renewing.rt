@@ -40,7 +40,7 @@ fn renew_globals(state: &mut TrackedState, globals: &[(usize, ValType)]) -> Resu
 }
 
 /// The page count is added, where there is one.
-#[tactic(auto, using(symbolic_state::proofs::Grows::same))]
+#[tactic(auto, using(crate::proofs::Renewals::same))]
 fn add_pages(state: &mut TrackedState) -> Result<(), Refused>
     ensures done { Gives refusal_of (λ _. state.new.state) result (pages_added_to state.old.state.pages state.old.state) }
     ensures kept { IfOk result (λ _. Grown state.old state.new) }
@@ -55,7 +55,7 @@ fn add_pages(state: &mut TrackedState) -> Result<(), Refused>
 }
 
 /// The page count is added, where it takes part.
-#[tactic(auto, using(symbolic_state::proofs::Grows::same))]
+#[tactic(auto, using(crate::proofs::Renewals::same))]
 fn renew_pages(state: &mut TrackedState, takes_part: bool) -> Result<(), Refused>
     ensures done { Gives refusal_of (λ _. state.new.state) result (pages_renewed takes_part state.old.state) }
     ensures kept { IfOk result (λ _. Grown state.old state.new) }
@@ -78,7 +78,7 @@ fn renew_places(
 }
 
 /// The result is a typed variable on top, where there is one.
-#[tactic(auto, using(symbolic_state::proofs::Grows::same))]
+#[tactic(auto, using(crate::proofs::Renewals::same))]
 fn renew_result(state: &mut TrackedState, ty: Option<ValType>) -> Result<Option<TermId>, Refused>
     ensures done { Gives refusal_of (λ id. (option_map (tree_at state.new.terms) id, state.new.state)) result (result_renewed ty state.old.state) }
     ensures within { IfOk result (λ id. IfSome id (λ i. i < length state.new.terms)) }
@@ -96,19 +96,19 @@ fn renew_slots(
     state: &mut TrackedState,
     globals: &[(usize, ValType)],
     pages: bool,
-    result: Option<ValType>,
+    ty: Option<ValType>,
 ) -> Result<Option<TermId>, Refused>
-    ensures done { Gives refusal_of (λ id. (option_map (tree_at state.new.terms) id, state.new.state)) result (slots_renewed globals.now pages result state.old.state) }
+    ensures done { Gives refusal_of (λ id. (option_map (tree_at state.new.terms) id, state.new.state)) result (slots_renewed globals.now pages ty state.old.state) }
     ensures within { IfOk result (λ id. IfSome id (λ i. i < length state.new.terms)) }
     ensures kept { IfOk result (λ _. Grown state.old state.new) }
 {
     renew_places(state, globals, pages)?;
-    renew_result(state, result)
+    renew_result(state, ty)
 }
 
 /// A typed variable for each global, the page count, a typed variable for the result, fresh own variables, and the assertion is
 /// known.
-#[tactic(auto, using(crate::proofs::Renewals::joining, symbolic_state::proofs::Grows::grown, symbolic_state::proofs::Grows::grown_ids))]
+#[tactic(auto, using(symbolic_state::proofs::Grows::grown, symbolic_state::proofs::Grows::grown_ids))]
 pub fn renew(
     state: &mut TrackedState,
     renewing: &Renewing<'_>,

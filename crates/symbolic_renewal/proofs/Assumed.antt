@@ -1,6 +1,6 @@
 -- An assertion that is known, part by part.
 use Rattle.std.proofs.Common.{◌≡◌, ℕ, ◌+◌, ◌<◌, ◌≤◌, List, [], ◌∷◌, ◌++◌, length, map, drop, get_or, All, Option, Some, None, IfSome, refl, sym, ap, ◌∙◌, arith}
-use Rattle.std.specs.Prelude.{option_map, Ok, Err}
+use Rattle.std.specs.Prelude.{slice_get, option_map, option_and_then, Ok, Err}
 use Rattle.term_trees.specs.declared.term.Place.{Place}
 use Rattle.term_trees.specs.declared.term.Place.TheVariants.{Local, Stack, Global, Pages, Arg, Result, Index, Item}
 use Rattle.term_trees.specs.declared.term.Term.{Term}
@@ -11,9 +11,9 @@ use Rattle.notes.specs.declared.chunk.Chunk.{Chunk}
 use Rattle.notes.specs.declared.assertion.Assertion.{Assertion}
 use Rattle.outline_rules.specs.Refusals.{Ruling, Refusal, ◌>>=◌}
 use Rattle.outline_rules.specs.Chunks.{replaced_chunk}
-use Rattle.outline_rules.specs.States.{State, fact_added, with_facts}
+use Rattle.outline_rules.specs.States.{State, settled, fact_added}
 use Rattle.outline_rules.specs.Entailment.{assertion_place, assertion_leaves}
-use Rattle.outline_rules.specs.Renewal.{facts_assumed, chunk_added, chunks_assumed, parts_assumed}
+use Rattle.outline_rules.specs.Renewal.{variables_from, facts_assumed, chunk_added, chunks_assumed, parts_assumed, assumed}
 use Rattle.outline_rules.specs.Initial.{chunks_added}
 use Rattle.symbolic_state.specs.declared.assertions.AssertionTerms.{AssertionTerms}
 use Rattle.symbolic_state.specs.States.{Tracked}
@@ -113,6 +113,14 @@ module _ (old mid : Tracked) (terms : AssertionTerms) (fs : List Formula) (i : �
     facts-stop None fails = tt
     facts-stop (Some e) fails = going-stop FactStep _ mid.state fs i so_far.whole f low at e (gives-same (Err e) fails)
 
+-- an assertion's formulas, and then its chunks
+pub parts-are : (l m : Leaves) (a : Assertion) (fs : List Formula) (cs : List Chunk) (s t : State) → fs ≡ a.formulas → cs ≡ a.chunks → facts_assumed l fs s ≡ Ok t → m ≡ l
+    → chunks_assumed m cs t ≡ parts_assumed l a s
+parts-are l m a fs cs s t formulas chunks gives same =
+    (λ j. chunks_assumed (same j) (chunks j) t)
+    ∙ ap (λ r. r >>= chunks_assumed l a.chunks) (sym gives)
+    ∙ ap (λ gs. facts_assumed l gs s >>= chunks_assumed l a.chunks) formulas
+
 pub ruleset facts = (facts-start, facts-end)
 
 -- ---- chunks
@@ -189,3 +197,19 @@ module _ (old mid : Tracked) (cs : List Chunk) (i : ℕ) (so_far : Added old mid
     added-stop (Some e) fails = going-stop chunk_added _ mid.state cs i so_far.whole c low at e fails
 
 pub ruleset whole_chunks = (added-start, added-end)
+
+-- ---- with its own variables
+
+term-kept : (old new : Tracked) → Grown old new → (o : Option ℕ) → IfSome o (λ id. id < length old.terms) → option_map (tree_at new.terms) o ≡ option_map (tree_at old.terms) o
+term-kept old new more None h = refl
+term-kept old new more (Some id) h = ap Some (more.terms.kept id h)
+
+pub assumed-is : (old mid : Tracked) (a : Assertion) (fixed args own : List ℕ) (answer : Option ℕ)
+    → All (λ id. id < length old.terms) args → IfSome answer (λ id. id < length old.terms) → Grown old mid
+    → settled [] (record old.state { vars = old.state.vars + a.own }) ≡ Ok mid.state
+    → map (tree_at mid.terms) own ≡ map (tree_at old.terms) fixed ++ variables_from old.state.vars a.own
+    → parts_assumed (assertion_leaves mid.state (map (tree_at mid.terms) own) (map (tree_at mid.terms) args) (option_map (tree_at mid.terms) answer)) a mid.state
+    ≡ assumed a (map (tree_at old.terms) fixed) (map (tree_at old.terms) args) (option_map (tree_at old.terms) answer) old.state
+assumed-is old mid a fixed args own answer low_args low_answer more gives own_is =
+    (λ j. parts_assumed (assertion_leaves mid.state (own_is j) (more.terms.trees args low_args j) (term-kept old mid more answer low_answer j)) a mid.state)
+    ∙ ap (λ r. r >>= λ t. parts_assumed (assertion_leaves t (map (tree_at old.terms) fixed ++ variables_from old.state.vars a.own) (map (tree_at old.terms) args) (option_map (tree_at old.terms) answer)) a t) (sym gives)
