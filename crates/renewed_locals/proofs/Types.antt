@@ -24,6 +24,8 @@ types-renewed k ty s t is = ap types_of (settled-same [] (with_local k (fresh s)
 
 pub ruleset kept = (types-renewed)
 
+pub ruleset same = (grown-same)
+
 -- the first locals are renewed
 pub record Locals (old new : Tracked) (part : ℕ → Bool) (k : ℕ) : Type 0 where
   pub whole : locals_renewed part 0 old.state.locals old.state ≡ locals_renewed part k (drop k old.state.locals) new.state

@@ -23,7 +23,7 @@ fn local_type(state: &TrackedState, k: usize) -> Option<ValType>
 }
 
 /// A local is a typed variable again, where it takes part.
-#[tactic(auto, using(symbolic_state::proofs::Grows::same, crate::proofs::Types::kept))]
+#[tactic(auto, using(crate::proofs::Types::same, crate::proofs::Types::kept))]
 fn renew_taken(
     state: &mut TrackedState,
     takes_part: bool,
@@ -38,7 +38,7 @@ fn renew_taken(
 }
 
 /// The local at a place is a typed variable again, if there is one and it takes part.
-#[tactic(auto, using(symbolic_state::proofs::Grows::same))]
+#[tactic(auto, using(crate::proofs::Types::same))]
 fn renew_at(state: &mut TrackedState, takes_part: bool, k: usize) -> Result<(), Refused>
     ensures done { Gives refusal_of (λ _. state.new.state) result (local_changed takes_part k (option_map (λ e. e.0) (slice_get state.old.state.locals k)) state.old.state) }
     ensures types { IfOk result (λ _. types_of state.new.state ≡ types_of state.old.state) }
