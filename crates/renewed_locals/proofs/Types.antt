@@ -58,17 +58,21 @@ module _ (old mid : Tracked) (part : ℕ → Bool) (k : ℕ) (so_far : Locals ol
     same-type : option_map (λ e. e.0) (slice_get mid.state.locals k) ≡ option_map (λ e. e.0) (slice_get old.state.locals k)
     same-type = sym (slice_get-map (λ e. e.0) mid.state.locals k) ∙ ap (λ tys. slice_get tys k) so_far.types ∙ slice_get-map (λ e. e.0) old.state.locals k
 
-    here : (r : Ruling State) → local_changed (part k) k (option_map (λ e. e.0) (slice_get mid.state.locals k)) mid.state ≡ r
-        → locals_renewed part 0 old.state.locals old.state ≡ (r >>= locals_renewed part (k + 1) (drop (k + 1) old.state.locals))
-    here r gives =
-        so_far.whole ∙ left-from part k old.state.locals mid.state low
-        ∙ ap (λ r. r >>= locals_renewed part (k + 1) (drop (k + 1) old.state.locals)) (ap (λ o. local_changed (part k) k o mid.state) (sym same-type) ∙ gives)
+    module _ (takes_part : Bool) (same : takes_part ≡ part k) where
+      -- what the local at the place comes to, of the state so far
+      abbrev Changed : Ruling State
+      Changed = local_changed takes_part k (option_map (λ e. e.0) (slice_get mid.state.locals k)) mid.state
 
-    pub locals-next : (new : Tracked) → local_changed (part k) k (option_map (λ e. e.0) (slice_get mid.state.locals k)) mid.state ≡ Ok new.state → types_of new.state ≡ types_of mid.state → Grown mid new → Locals old new part (k + 1)
-    locals-next new gives types more = record { whole = here (Ok new.state) gives; types = types ∙ so_far.types; grown = grown-then old mid new so_far.grown more }
+      here : (r : Ruling State) → Changed ≡ r → locals_renewed part 0 old.state.locals old.state ≡ (r >>= locals_renewed part (k + 1) (drop (k + 1) old.state.locals))
+      here r gives =
+          so_far.whole ∙ left-from part k old.state.locals mid.state low
+          ∙ ap (λ r. r >>= locals_renewed part (k + 1) (drop (k + 1) old.state.locals)) ((λ j. local_changed (sym same j) k (sym same-type j) mid.state) ∙ gives)
 
-    pub locals-stop : (o : Option Refusal) → IfSome o (λ e. local_changed (part k) k (option_map (λ e. e.0) (slice_get mid.state.locals k)) mid.state ≡ Err e) → IfSome o (λ e. locals_renewed part 0 old.state.locals old.state ≡ Err e)
-    locals-stop None fails = tt
-    locals-stop (Some e) fails = here (Err e) fails
+      pub locals-next : (new : Tracked) → local_changed takes_part k (option_map (λ e. e.0) (slice_get mid.state.locals k)) mid.state ≡ Ok new.state → types_of new.state ≡ types_of mid.state → Grown mid new → Locals old new part (k + 1)
+      locals-next new gives types more = record { whole = here (Ok new.state) gives; types = types ∙ so_far.types; grown = grown-then old mid new so_far.grown more }
+
+      pub locals-stop : (o : Option Refusal) → IfSome o (λ e. local_changed takes_part k (option_map (λ e. e.0) (slice_get mid.state.locals k)) mid.state ≡ Err e) → IfSome o (λ e. locals_renewed part 0 old.state.locals old.state ≡ Err e)
+      locals-stop None fails = tt
+      locals-stop (Some e) fails = here (Err e) fails
 
 pub ruleset renewing = (locals-start, locals-end)

@@ -73,7 +73,7 @@ fn renew_block(
 
 /// The state after a block or `if`, and at the start of a loop's body, from that at the block's entry: the locals that its code
 /// sets are typed variables, no chunk is left, and a renewal by the label's assertion follows.
-#[tactic(auto, using(symbolic_state::proofs::Grows::grown, crate::proofs::Parts::resuming))]
+#[tactic(auto, using(symbolic_state::proofs::Grows::grown))]
 pub fn resume(
     alloc: Global,
     state: &mut TrackedState,
