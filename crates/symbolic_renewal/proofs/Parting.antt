@@ -1,9 +1,9 @@
 -- A renewal in which only part of the globals takes part.
-use Rattle.std.proofs.Common.{◌≡◌, ℕ, Bool, true, false, List, [], ◌∷◌, refl, ap, ◌∙◌}
+use Rattle.std.proofs.Common.{◌≡◌, ℕ, Bool, true, false, List, [], ◌∷◌, refl, ap}
 use Rattle.std.specs.Prelude.{filter, cond, if◌then◌else◌, Ok}
 use Rattle.wasm_values.specs.declared.number.ValType.{ValType}
 use Rattle.notes.specs.declared.assertion.Assertion.{Assertion}
-use Rattle.outline_rules.specs.Refusals.{Ruling, ◌>>=◌}
+use Rattle.outline_rules.specs.Refusals.{◌>>=◌}
 use Rattle.outline_rules.specs.States.{State}
 use Rattle.outline_rules.specs.Renewal.{Renewing, global_renewed, globals_renewed, pages_renewed, result_renewed, assumed, renewed}
 

@@ -1,8 +1,7 @@
 -- Globals that are renewed one by one, and the parts of a renewal joined.
-use Rattle.std.proofs.Common.{◌≡◌, ℕ, ◌+◌, ◌<◌, ◌≤◌, Bool, true, List, [], ◌∷◌, length, map, drop, get_or, Option, Some, None, IfSome, refl, sym, ap, ◌∙◌}
+use Rattle.std.proofs.Common.{◌≡◌, ℕ, ◌+◌, ◌<◌, ◌≤◌, true, List, [], ◌∷◌, length, map, drop, get_or, Option, Some, None, IfSome, refl, sym, ap, ◌∙◌}
 use Rattle.std.specs.Prelude.{option_map, Ok, Err}
 use Rattle.wasm_values.specs.declared.number.ValType.{ValType}
-use Rattle.term_trees.specs.declared.term.Term.{Term}
 use Rattle.term_logic.specs.Table.{tree_at}
 use Rattle.notes.specs.declared.assertion.Assertion.{Assertion}
 use Rattle.outline_rules.specs.Refusals.{Ruling, Refusal, ◌>>=◌}

@@ -1,12 +1,12 @@
 -- A state that is within the limits is the one that was asked about.
-use Rattle.std.proofs.Common.{◌≡◌, ℕ, ◌≤◌, Bool, true, false, List, [], ◌∷◌, length, refl, sym, ap, ◌∙◌}
+use Rattle.std.proofs.Common.{◌≡◌, ℕ, List, [], ◌∷◌, length}
 use Rattle.std.specs.Prelude.{nat_le, Ok, Err}
 use Rattle.std.specs.List.{list_all}
 use Rattle.wasm_values.specs.declared.limit.LimitWord.TheVariants as limit
 use Rattle.term_trees.specs.declared.term.Formula.{Formula}
 use Rattle.term_trees.specs.Formulas.{formula_nodes}
 use Rattle.notes.specs.declared.chunk.Chunk.{Chunk}
-use Rattle.outline_rules.specs.Refusals.{Ruling, PastLimit, limited, ◌>>◌}
+use Rattle.outline_rules.specs.Refusals.{Ruling, limited, ◌>>◌}
 use Rattle.outline_rules.specs.States.{State, nodes_of, settled, with_facts, fact_added, with_more_chunks}
 use Rattle.outline_rules.specs.HeapMoves.{parts_nodes}
 use Rattle.outline_rules.specs.Renewal.{chunk_added}
