@@ -1,8 +1,8 @@
 -- Formulas and chunks that are made from an assertion, within their limits.
-use Rattle.std.proofs.Common.{◌≡◌, ℕ, ◌+◌, ◌≤◌, ◌<◌, Bool, true, false, ◌&&◌, List, [], ◌∷◌, length, Option, Some, None, IfSome, IsTrue, refl, sym, ap, ◌∙◌, arith}
+use Rattle.std.proofs.Common.{◌≡◌, ◌+◌, ◌≤◌, ◌<◌, Bool, true, false, ◌&&◌, List, [], ◌∷◌, length, Option, Some, None, IfSome, refl, ap, ◌∙◌}
 use Rattle.std.specs.Prelude.{nat_le, Ok, Err}
 use Rattle.std.specs.List.{list_all}
-use Rattle.std.proofs.lemmas.Bool.{lt-leb, le-leb, leb-true}
+use Rattle.std.proofs.lemmas.Bool.{lt-leb, le-leb}
 use Rattle.wasm_values.specs.declared.limit.LimitWord.TheVariants as limit
 use Rattle.term_trees.specs.declared.term.Term.{Term}
 use Rattle.term_trees.specs.declared.term.Formula.{Formula}
@@ -105,4 +105,3 @@ chunk-stays (Row width at count each) = λ j. Row width (term_stays at j) (term_
 
 pub chunk-same : (l : Leaves) → l ≡ no_leaves → (c : Chunk) → replaced_chunk l c ≡ c
 chunk-same l is c = ap (λ k. replaced_chunk k c) is ∙ chunk-stays c
-

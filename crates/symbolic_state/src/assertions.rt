@@ -187,11 +187,7 @@ fn put_parts(
 
 /// A chunk with its leaves replaced, each part within the limit.
 #[tactic(auto, using(crate::proofs::AssertionParts::chunks))]
-fn put_chunk(
-    table: &mut TermTable,
-    chunk: &Chunk,
-    leaves: &LeafIds<'_>,
-) -> Result<IdChunk, Refused>
+fn put_chunk(table: &mut TermTable, chunk: &Chunk, leaves: &LeafIds<'_>) -> Result<IdChunk, Refused>
     requires leaves { LeavesWithin (length table.old) leaves.now }
     requires well_formed { IsTrue (well_formed_chunk chunk.now) }
     ensures put { Gives refusal_of (chunk_of table.new) result (small_chunk (replaced_chunk (leaves_of table.old leaves.now) chunk.now)) }
@@ -264,11 +260,7 @@ impl TrackedState {
 
     /// One more fact: a formula of an assertion, its leaves replaced.
     #[tactic(auto, using(crate::proofs::Leafing::instances))]
-    pub fn add_formula_of(
-        &mut self,
-        f: &Formula,
-        terms: &AssertionTerms<'_>,
-    ) -> Result<(), Refused>
+    pub fn add_formula_of(&mut self, f: &Formula, terms: &AssertionTerms<'_>) -> Result<(), Refused>
         requires terms { TermsWithin (length self.old.terms) terms.now }
         requires well_formed { IsTrue (well_formed_formula f.now) }
         ensures done { Gives refusal_of (λ _. self.new.state) result (fact_added (replaced_formula (leaves_in self.old terms.now) f.now) self.old.state) }
@@ -298,11 +290,7 @@ impl TrackedState {
 
     /// One more chunk: one of an assertion, its leaves replaced.
     #[tactic(auto, using(crate::proofs::AssertionParts::chunk_instances))]
-    pub fn add_chunk_of(
-        &mut self,
-        chunk: &Chunk,
-        terms: &AssertionTerms<'_>,
-    ) -> Result<(), Refused>
+    pub fn add_chunk_of(&mut self, chunk: &Chunk, terms: &AssertionTerms<'_>) -> Result<(), Refused>
         requires terms { TermsWithin (length self.old.terms) terms.now }
         requires well_formed { IsTrue (well_formed_chunk chunk.now) }
         ensures done { Gives refusal_of (λ _. self.new.state) result (chunk_added (replaced_chunk (leaves_in self.old terms.now) chunk.now) self.old.state) }
