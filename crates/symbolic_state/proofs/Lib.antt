@@ -21,3 +21,4 @@ pub mod LeftOver
 pub mod Walks
 pub mod Takes
 pub mod AssertionLeaves
+pub mod AssertionParts

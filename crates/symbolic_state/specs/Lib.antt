@@ -3,6 +3,7 @@ pub mod States
 pub mod Tracking
 pub mod Chunks
 pub mod Growth
+pub mod Assertions
 pub mod Making
 pub mod Snapshots
 pub mod words

@@ -31,12 +31,12 @@ impl TrackedState {
 
     /// The nodes of the state with another term for a local.
     #[tactic(auto, using(crate::proofs::Counting::slot_nodes))]
-    pub(crate) fn nodes_with_local(&self, k: u32, id: TermId) -> usize
+    pub(crate) fn nodes_with_local(&self, k: usize, id: TermId) -> usize
         requires { id < length self.now.terms }
         ensures nodes { result ≡ nodes_of (with_local k (tree_at self.now.terms id) self.now.state) }
         ensures small { result ≤ 1004096 }
     {
-        match self.term_at(Place::Local(k)) {
+        match self.local_term(k) {
             Some(before) => self.exchanged(before, id),
             None => self.nodes,
         }
@@ -57,7 +57,7 @@ impl TrackedState {
 
     /// The nodes of the state with another term for a global.
     #[tactic(auto, using(crate::proofs::Counting::slot_nodes))]
-    pub(crate) fn nodes_with_global(&self, k: u32, id: TermId) -> usize
+    pub(crate) fn nodes_with_global(&self, k: usize, id: TermId) -> usize
         requires { id < length self.now.terms }
         ensures nodes { result ≡ nodes_of (with_global k (tree_at self.now.terms id) self.now.state) }
         ensures small { result ≤ 1004096 }
@@ -84,14 +84,14 @@ impl TrackedState {
 
     /// Another term for a local, if there is one with that number. The state has so many nodes then.
     #[tactic(auto, using(crate::proofs::Lists::entry_trees))]
-    pub(crate) fn replace_local(&mut self, k: u32, id: TermId, nodes: usize)
+    pub(crate) fn replace_local(&mut self, k: usize, id: TermId, nodes: usize)
         requires within { id < length self.old.terms }
         requires nodes { nodes ≡ nodes_of (with_local k (tree_at self.old.terms id) self.old.state) }
         requires room { nodes ≤ 1000000 }
         ensures state { self.new ≡ record self.old { state = with_local k (tree_at self.old.terms id) self.old.state } }
         ensures kept { Grown self.old self.new }
     {
-        set_entry(&mut self.state.locals, k as usize, id);
+        set_entry(&mut self.state.locals, k, id);
         self.nodes = nodes;
     }
 
@@ -110,14 +110,14 @@ impl TrackedState {
 
     /// Another term for a global, if there is one with that number. The state has so many nodes then.
     #[tactic(auto, using(crate::proofs::Lists::global_sets))]
-    pub(crate) fn replace_global(&mut self, k: u32, id: TermId, nodes: usize)
+    pub(crate) fn replace_global(&mut self, k: usize, id: TermId, nodes: usize)
         requires within { id < length self.old.terms }
         requires nodes { nodes ≡ nodes_of (with_global k (tree_at self.old.terms id) self.old.state) }
         requires room { nodes ≤ 1000000 }
         ensures state { self.new ≡ record self.old { state = with_global k (tree_at self.old.terms id) self.old.state } }
         ensures kept { Grown self.old self.new }
     {
-        set_some(&mut self.state.globals, k as usize, id);
+        set_some(&mut self.state.globals, k, id);
         self.nodes = nodes;
     }
 

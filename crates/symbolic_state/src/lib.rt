@@ -1,6 +1,7 @@
 //! The symbolic state of the outline check over a table of terms, and what its instructions do to it.
 #![tactic(auto)]
 
+mod assertions;
 mod begin;
 mod changes;
 mod changing;
@@ -30,6 +31,7 @@ mod taking;
 mod tracked;
 mod variables;
 
+pub use assertions::AssertionTerms;
 pub use formulas::{at_most, below, both, denied, either, equal};
 pub use instances::in_place_of_variables;
 pub use keeping::is_among;

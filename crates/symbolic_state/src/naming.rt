@@ -68,9 +68,9 @@ impl TrackedState {
         ensures small { result ≤ 1004096 }
     {
         match place {
-            Place::Local(k) => self.nodes_with_local(k, id),
+            Place::Local(k) => self.nodes_with_local(k as usize, id),
             Place::Stack(k) => self.nodes_with_operand(k, id),
-            Place::Global(k) => self.nodes_with_global(k, id),
+            Place::Global(k) => self.nodes_with_global(k as usize, id),
             Place::Pages => self.nodes_with_pages(id),
             Place::Arg(_) => self.nodes,
             Place::Result => self.nodes,
@@ -87,9 +87,9 @@ impl TrackedState {
         ensures state { self.new ≡ record self.old { state = with_slot place (tree_at self.old.terms id) self.old.state } }
     {
         match place {
-            Place::Local(k) => self.replace_local(k, id, nodes),
+            Place::Local(k) => self.replace_local(k as usize, id, nodes),
             Place::Stack(k) => self.replace_operand(k, id, nodes),
-            Place::Global(k) => self.replace_global(k, id, nodes),
+            Place::Global(k) => self.replace_global(k as usize, id, nodes),
             Place::Pages => self.replace_pages(id, nodes),
             Place::Arg(_) => {}
             Place::Result => {}

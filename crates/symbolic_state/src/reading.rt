@@ -82,15 +82,34 @@ impl TrackedState {
         self.state.locals.len()
     }
 
+    /// The local at a place, if there is one.
+    pub fn local_at(&self, k: usize) -> Option<(ValType, TermId)>
+        ensures local { option_map (entry_at self.now.terms) result ≡ slice_get self.now.state.locals k }
+        ensures within { IfSome result (λ e. e.1 < length self.now.terms) }
+    {
+        match self.state.locals.as_slice().get(k) {
+            Some((ty, id)) => Some((*ty, *id)),
+            None => None,
+        }
+    }
+
+    /// The term of the local at a place, if there is one.
+    pub(crate) fn local_term(&self, k: usize) -> Option<TermId>
+        ensures term { option_map (tree_at self.now.terms) result ≡ option_map (λ e. e.1) (slice_get self.now.state.locals k) }
+        ensures within { IfSome result (λ id. id < length self.now.terms) }
+    {
+        match self.local_at(k) {
+            Some((_, id)) => Some(id),
+            None => None,
+        }
+    }
+
     /// The local with a number, if there is one.
     pub fn local(&self, k: u32) -> Option<(ValType, TermId)>
         ensures local { option_map (entry_at self.now.terms) result ≡ slice_get self.now.state.locals k }
         ensures within { IfSome result (λ e. e.1 < length self.now.terms) }
     {
-        match self.state.locals.as_slice().get(k as usize) {
-            Some((ty, id)) => Some((*ty, *id)),
-            None => None,
-        }
+        self.local_at(k as usize)
     }
 
     /// The operand at a place, 0 being the top, if there is one.
@@ -109,11 +128,11 @@ impl TrackedState {
     }
 
     /// The global with a number, if there is one: its term, if it has one.
-    pub(crate) fn global_entry(&self, k: u32) -> Option<Option<TermId>>
+    pub(crate) fn global_entry(&self, k: usize) -> Option<Option<TermId>>
         ensures entry { option_map (option_map (tree_at self.now.terms)) result ≡ slice_get self.now.state.globals k }
         ensures within { IfSome result (λ o. IfSome o (λ id. id < length self.now.terms)) }
     {
-        self.state.globals.as_slice().get(k as usize).copied()
+        self.state.globals.as_slice().get(k).copied()
     }
 
     /// The term of the global with a number, if it has one.

@@ -80,9 +80,9 @@ impl TrackedState {
         ensures terms { IfOk result (λ _. self.new.terms ≡ self.old.terms) }
         ensures kept { IfOk result (λ _. Grown self.old self.new) }
     {
-        let nodes = self.nodes_with_local(k, id);
+        let nodes = self.nodes_with_local(k as usize, id);
         self.room(true, 0, 0, 0, nodes)?;
-        self.replace_local(k, id, nodes);
+        self.replace_local(k as usize, id, nodes);
         Ok(())
     }
 
@@ -108,9 +108,9 @@ impl TrackedState {
         ensures terms { IfOk result (λ _. self.new.terms ≡ self.old.terms) }
         ensures kept { IfOk result (λ _. Grown self.old self.new) }
     {
-        let nodes = self.nodes_with_global(k, id);
+        let nodes = self.nodes_with_global(k as usize, id);
         self.room(true, 0, 0, 0, nodes)?;
-        self.replace_global(k, id, nodes);
+        self.replace_global(k as usize, id, nodes);
         Ok(())
     }
 

@@ -77,7 +77,7 @@ impl TrackedState {
 
     /// A local is a typed variable again.
     #[tactic(auto, using(crate::proofs::Settling::renewals, crate::proofs::Grows::grown))]
-    pub fn renew_local(&mut self, k: u32, ty: ValType) -> Result<(), Refused>
+    pub fn renew_local(&mut self, k: usize, ty: ValType) -> Result<(), Refused>
         ensures done { Gives refusal_of (λ _. self.new.state) result (local_renewed k ty self.old.state) }
         ensures kept { IfOk result (λ _. Grown self.old self.new) }
     {
@@ -91,7 +91,7 @@ impl TrackedState {
 
     /// A global is a typed variable again.
     #[tactic(auto, using(crate::proofs::Settling::renewals, crate::proofs::Grows::grown))]
-    pub fn renew_global(&mut self, k: u32, ty: ValType) -> Result<(), Refused>
+    pub fn renew_global(&mut self, k: usize, ty: ValType) -> Result<(), Refused>
         ensures done { Gives refusal_of (λ _. self.new.state) result (global_renewed k ty self.old.state) }
         ensures kept { IfOk result (λ _. Grown self.old self.new) }
     {

@@ -1,4 +1,4 @@
-use Rattle.std.proofs.Common.{◌≡◌, ap, ◌∙◌, arith}
+use Rattle.std.proofs.Common.{ap, ◌∙◌, arith}
 use Rattle.term_trees.specs.Leaves.{replaced_formula}
 use Rattle.term_logic.specs.Leaves.{leaves_of}
 use Rattle.term_logic.specs.Formulas.{formula_of}

@@ -1,0 +1,7 @@
+//! Whether the leaves of a label's assertion exist where its block begins.
+#![tactic(auto)]
+
+mod given;
+mod scopes;
+
+pub use given::label_given;

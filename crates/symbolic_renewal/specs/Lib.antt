@@ -1,0 +1,2 @@
+pub mod Renewings
+pub mod words
