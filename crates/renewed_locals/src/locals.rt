@@ -34,7 +34,11 @@ fn renew_taken(
     ensures types { IfOk result (λ _. types_of state.new.state ≡ types_of state.old.state) }
     ensures kept { IfOk result (λ _. Grown state.old state.new) }
 {
-    if takes_part { state.renew_local(k, ty) } else { Ok(()) }
+    if takes_part {
+        state.renew_local(k, ty)
+    } else {
+        Ok(())
+    }
 }
 
 /// The local at a place is a typed variable again, if there is one and it takes part.
