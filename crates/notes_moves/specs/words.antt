@@ -1,0 +1,4 @@
+pub mod Assertions
+pub mod Chunks
+pub mod HeapMoves
+pub mod Moves
