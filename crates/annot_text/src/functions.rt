@@ -4,14 +4,11 @@ ghost use Rattle.sexp_text.specs.Reading.{Gives};
 ghost use Rattle.notes_grammar.specs.Parts.{part_of, parts_of};
 ghost use Rattle.notes_grammar.specs.Reading.{note_in, side_in, contract_in, contract_first, function_in, after_list, initial_in};
 ghost use Rattle.notes_parts.specs.Seen.{headed_seen};
-ghost use Rattle.notes_moves.specs.words.Functions.{noted_headed, noted_in, note_parts, note_read, side_read, contract_read, function_parts, function_read, initial_parts, initial_read};
+ghost use Rattle.annot_text.specs.words.Functions.{noted_headed, noted_in, note_parts, note_read, side_read, contract_read, function_parts, function_read, initial_parts, initial_read};
 
-use crate::assertions::{Assertions, Withs};
-use crate::chunks::Chunks;
-use crate::kinds::joined;
-use crate::moves::{Moves, move_headed};
 use crate::uses::{Takes, use_formed, use_kind};
 use notes::{Assertion, Chunk, Contract, FuncNotes, Initial, Move, Note, Take, Use, With};
+use notes_moves::{Assertions, Chunks, Moves, Withs, joined, read_headed_move};
 use notes_parts::{Context, Headed, ended, headed_list, is_tagged, tagged};
 use notes_terms::{
     Entry, Lists, Smalls, entries, entry_field, three_fields, whole_one, whole_two,
@@ -37,7 +34,7 @@ fn noted_headed(
 {
     match use_kind(headed.head) {
         Some(kind) => use_formed(alloc, context, kind, headed).map(Noted::Use),
-        None => move_headed(alloc, context, headed).map(Noted::Move),
+        None => read_headed_move(alloc, context, headed).map(Noted::Move),
     }
 }
 
@@ -80,14 +77,14 @@ fn note_of_parts(alloc: Global, context: &Context, part: &Sexp) -> Result<Note, 
 }
 
 /// The note of an instruction.
-pub fn read_note(alloc: Global, context: &Context, part: &Sexp) -> Result<Note, TextFault>
+pub(crate) fn read_note(alloc: Global, context: &Context, part: &Sexp) -> Result<Note, TextFault>
     ensures { Gives (λ n. n) result (note_in context.now (part_of part.now)) }
 {
     note_of_parts(alloc, context, part)
 }
 
 /// Notes of instructions.
-pub struct InstructionNotes;
+pub(crate) struct InstructionNotes;
 
 impl Entry<Note> for InstructionNotes {
     ghost reads = { λ c. note_in c };
@@ -213,14 +210,14 @@ fn function_of_parts(alloc: Global, context: &Context, part: &Sexp) -> Result<Fu
 }
 
 /// The notes of a function.
-pub fn read_function(alloc: Global, context: &Context, part: &Sexp) -> Result<FuncNotes, TextFault>
+pub(crate) fn read_function(alloc: Global, context: &Context, part: &Sexp) -> Result<FuncNotes, TextFault>
     ensures { Gives (λ f. f) result (function_in context.now (part_of part.now)) }
 {
     function_of_parts(alloc, context, part)
 }
 
 /// Notes of functions.
-pub struct Functions;
+pub(crate) struct Functions;
 
 impl Entry<FuncNotes> for Functions {
     ghost reads = { λ c. function_in c };
@@ -283,14 +280,14 @@ fn initial_of_parts(alloc: Global, context: &Context, part: &Sexp) -> Result<Ini
 }
 
 /// An initial part.
-pub fn read_initial(alloc: Global, context: &Context, part: &Sexp) -> Result<Initial, TextFault>
+pub(crate) fn read_initial(alloc: Global, context: &Context, part: &Sexp) -> Result<Initial, TextFault>
     ensures { Gives (λ i. i) result (initial_in context.now (part_of part.now)) }
 {
     initial_of_parts(alloc, context, part)
 }
 
 /// Initial parts.
-pub struct Initials;
+pub(crate) struct Initials;
 
 impl Entry<Initial> for Initials {
     ghost reads = { λ c. initial_in c };

@@ -5,12 +5,11 @@ ghost use Rattle.sexp_text.specs.Reading.{Gives};
 ghost use Rattle.notes_grammar.specs.Parts.{part_of, parts_of};
 ghost use Rattle.notes_grammar.specs.Reading.{take_in, safe_list, more_safe};
 ghost use Rattle.notes_parts.specs.Seen.{headed_seen};
-ghost use Rattle.notes_moves.specs.words.Uses.{take_parts, take_read, use_kind, both_read, loop_read, skip_read, use_formed};
+ghost use Rattle.annot_text.specs.words.Uses.{take_parts, take_read, use_kind, both_read, loop_read, skip_read, use_formed};
 
-use crate::assertions::{Assertions, Withs, with_parts};
-use crate::moves::Moves;
 use notes::{Assertion, Move, Take, Use, With};
 use notes_grammar::Head;
+use notes_moves::{Assertions, Moves, Withs, read_with_list};
 use notes_parts::{Context, Headed, ended, small, tagged};
 use notes_terms::{Entry, Lists, Smalls, entries, entry_field, whole_one, whole_two};
 use sexp_text::{Sexp, TextFault};
@@ -41,14 +40,14 @@ fn take_of_parts(alloc: Global, context: &Context, part: &Sexp) -> Result<Take, 
 }
 
 /// A take.
-pub fn read_take(alloc: Global, context: &Context, part: &Sexp) -> Result<Take, TextFault>
+pub(crate) fn read_take(alloc: Global, context: &Context, part: &Sexp) -> Result<Take, TextFault>
     ensures { Gives (λ t. t) result (take_in context.now (part_of part.now)) }
 {
     take_of_parts(alloc, context, part)
 }
 
 /// Takes.
-pub struct Takes;
+pub(crate) struct Takes;
 
 impl Entry<Take> for Takes {
     ghost reads = { λ c. take_in c };
@@ -194,7 +193,7 @@ pub(crate) fn use_formed(
     let close = headed.close;
     let rest = headed.rest;
     match kind {
-        UseKind::With => with_parts(alloc, context, close, rest).map(Use::With),
+        UseKind::With => read_with_list(alloc, context, close, rest).map(Use::With),
         UseKind::Cell => whole_one::<u32, Smalls>(alloc, context, close, rest).map(Use::Cell),
         UseKind::Safe => read_safe(alloc, context, close, rest),
         UseKind::Trap => whole_one::<With, Withs>(alloc, context, close, rest).map(Use::Trap),

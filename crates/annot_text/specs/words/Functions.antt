@@ -15,19 +15,18 @@ use Rattle.notes.specs.declared.outline.FuncNotes.{FuncNotes}
 use Rattle.notes.specs.declared.outline.Initial.{Initial}
 use Rattle.notes_grammar.specs.Parts.{Part, Parts, Nil, Cons}
 use Rattle.notes_grammar.specs.Shapes.{Setting}
-use Rattle.notes_grammar.specs.Reading.{Headed, headed, tagged, field, ended, list_of, all_of, small, chunk_in, assertion_in, with_in, move_in, note_in, side_in, contract_first, after_list}
+use Rattle.notes_grammar.specs.Reading.{Headed, headed, tagged, field, ended, list_of, all_of, small, chunk_in, assertion_in, with_in, move_at, move_in, note_in, side_in, contract_first, after_list}
 use Rattle.notes_terms.specs.Fields.{three_fields, whole_one, whole_two}
-use Rattle.notes_moves.specs.declared.functions.Noted.{Noted}
-use Rattle.notes_moves.specs.declared.functions.Noted.TheVariants as noted
-use Rattle.notes_moves.specs.declared.uses.UseKind.{UseKind}
-use Rattle.notes_moves.specs.words.Joined.{joined}
-use Rattle.notes_moves.specs.words.Moves.{move_headed}
-use Rattle.notes_moves.specs.words.Uses.{use_kind, use_formed}
+use Rattle.annot_text.specs.declared.functions.Noted.{Noted}
+use Rattle.annot_text.specs.declared.functions.Noted.TheVariants as noted
+use Rattle.annot_text.specs.declared.uses.UseKind.{UseKind}
+use Rattle.notes_moves.specs.Joined.{joined}
+use Rattle.annot_text.specs.words.Uses.{use_kind, use_formed}
 
 -- a use of this kind, or a move
 abbrev pub use_or_move : Setting → Headed → Option UseKind → Result Noted TextFault
 use_or_move c h (Some k) = use_formed c k h >>= λ u. Ok (noted.Use u)
-use_or_move c h None = move_headed c h >>= λ m. Ok (noted.Move m)
+use_or_move c h None = move_at c h h.head >>= λ m. Ok (noted.Move m)
 
 abbrev pub noted_headed : Setting → Headed → Result Noted TextFault
 noted_headed c h = use_or_move c h (use_kind h.head)

@@ -9,11 +9,10 @@ use Rattle.notes_grammar.specs.declared.head.Head.{Head}
 use Rattle.notes_grammar.specs.declared.head.Head.TheVariants as head
 use Rattle.notes_grammar.specs.Parts.{Part, Parts}
 use Rattle.notes_grammar.specs.Shapes.{Setting}
-use Rattle.notes_grammar.specs.Reading.{Headed, tagged, list_of, all_of, small, assertion_in, with_in, move_in, take_in, safe_list}
+use Rattle.notes_grammar.specs.Reading.{Headed, tagged, list_of, all_of, small, assertion_in, with_list, with_in, move_in, take_in, safe_list}
 use Rattle.notes_terms.specs.Fields.{whole_one, whole_two}
-use Rattle.notes_moves.specs.declared.uses.UseKind.{UseKind}
-use Rattle.notes_moves.specs.declared.uses.UseKind.TheVariants as kind
-use Rattle.notes_moves.specs.words.Assertions.{with_parts}
+use Rattle.annot_text.specs.declared.uses.UseKind.{UseKind}
+use Rattle.annot_text.specs.declared.uses.UseKind.TheVariants as kind
 
 abbrev pub take_parts : Setting → ℕ → Parts → Result Take TextFault
 take_parts c close ps = whole_two (list_of (move_in c)) (with_in c.later) close ps >>= λ x. Ok (record { moves = x.0; with = x.1 })
@@ -46,7 +45,7 @@ skip_read c close ps = whole_two (assertion_in c.later) (take_in c) close ps >>=
 
 -- the use of a list of this kind
 abbrev pub use_formed : Setting → UseKind → Headed → Result Use TextFault
-use_formed c kind.With h = with_parts c.later h.close h.rest >>= λ w. Ok (used.With w)
+use_formed c kind.With h = with_list c.later h.close h.rest >>= λ w. Ok (used.With w)
 use_formed c kind.Cell h = whole_one small h.close h.rest >>= λ k. Ok (used.Cell k)
 use_formed c kind.Safe h = safe_list h.close h.rest
 use_formed c kind.Trap h = whole_one (with_in c.later) h.close h.rest >>= λ w. Ok (used.Trap w)

@@ -1,0 +1,4 @@
+pub mod LemmaLoop
+pub mod NoteLoop
+pub mod Same
+pub mod TextLaws
