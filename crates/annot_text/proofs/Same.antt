@@ -1,9 +1,10 @@
 -- Takes, uses, notes, functions, lemmas and whole notes are read from their parts as the grammar says.
-use Rattle.std.proofs.Common.{◌≡◌, ℕ, Bool, true, false, cond, List, [], ◌∷◌, Option, Some, None, Result, Ok, Err, refl, sym, ap, ◌∙◌}
+use Rattle.std.proofs.Common.{◌≡◌, ℕ, Bool, true, false, cond, List, [], ◌∷◌, Option, Some, None, Result, Ok, Err, IfOk, refl, sym, ap, ◌∙◌}
 use Rattle.std.specs.Prelude.{codes}
 use Rattle.std.specs.Option.{option_map}
 use Rattle.sexp_text.specs.declared.fault.TextFault.{TextFault}
-use Rattle.sexp_text.specs.Reading.{◌>>=◌}
+use Rattle.sexp_text.specs.declared.fault.TextWord.TheVariants as fault
+use Rattle.sexp_text.specs.Reading.{◌>>=◌, refused, Gives}
 use Rattle.term_trees.specs.declared.term.Formula.{Formula}
 use Rattle.bitvector_rules.specs.declared.step.Step.{Step}
 use Rattle.notes.specs.declared.chunk.Chunk.{Chunk}
@@ -24,6 +25,7 @@ use Rattle.notes_grammar.specs.declared.head.Head.TheVariants as head
 use Rattle.notes_grammar.specs.Parts.{Part, Parts, Nil, Cons, place}
 use Rattle.notes_grammar.specs.Shapes.{Setting, is_among}
 use Rattle.notes_grammar.specs.Reading.{Headed, headed, tagged, field, list_of, all_of, ended, small, assertion_in, with_in, move_at, move_in, chunk_in, take_list, take_in, one_small, both_list, loop_list, skip_list, use_at, use_or, note_list, note_in, side_in, contract_in, contract_first, function_in, after_list, initial_in, formula_in, steps_in, new_name, name_in, lemma_in, notes_rest}
+use Rattle.notes_grammar.proofs.Exactness.{bound}
 use Rattle.notes_moves.proofs.Endings.{one_made, two_made}
 use Rattle.notes_moves.proofs.Kinds.{alike}
 use Rattle.annot_text.specs.declared.functions.Noted.{Noted}
@@ -247,10 +249,42 @@ lemma_is c p e = here c.names p ∙ ap (λ b. lemma_read (setting b c.names) p) 
     unfolding lemma_in
     here ns p = alike (tagged (codes "lemma") p) _ _ (λ l. by_name l.1 (field (new_name ns) l.1 l.0))
 
+ok_same : {A : Type 0} (x y : A) → ◌≡◌ {A = Result A TextFault} (Ok x) (Ok y) → x ≡ y
+ok_same x y e = cc
+
+new_is : (names : List (List ℕ)) (p : Part) (n : List ℕ) → new_name names p ≡ Ok n → is_among names n ≡ false
+unfolding new_name
+new_is names p n e =
+    let one = bound (name_in p) _ n e in
+    by one.0 (is_among names one.0) refl one.2
+  where
+    by : (m : List ℕ) (b : Bool) → is_among names m ≡ b → cond b (refused (place p) fault.Name) (Ok m) ≡ Ok n → is_among names n ≡ false
+    by m true t d = absurd cc
+    by m false t d = ap (is_among names) (sym (ok_same m n d)) ∙ t
+
+new_field : (names : List (List ℕ)) (close : ℕ) (ps : Parts) (x : List ℕ × Parts) → field (new_name names) close ps ≡ Ok x → is_among names x.0 ≡ false
+new_field names close Nil x e = absurd cc
+new_field names close (Cons q qs) x e =
+    let one = bound (new_name names q) (λ n. Ok (n, qs)) x e in
+    let same : (one.0, qs) ≡ x = ok_same (one.0, qs) x one.2 in
+    ap (λ (y : List ℕ × Parts). is_among names y.0) (sym same) ∙ new_is names q one.0 one.1
+
 -- the name of a lemma that is read is new
 pub lemma_new : (names : List (List ℕ)) (p : Part) (l : Lemma) → lemma_in names p ≡ Ok l → is_among names l.name ≡ false
 unfolding lemma_in
-lemma_new names p l e = ?
+lemma_new names p y e =
+    let l = bound (tagged (codes "lemma") p) _ y e in
+    let n = bound (field (new_name names) l.0.1 l.0.0) _ y l.2 in
+    let k = bound (field small l.0.1 n.0.1) _ y n.2 in
+    let hs = bound (field (list_of (formula_in true)) l.0.1 k.0.1) _ y k.2 in
+    let g = bound (field (formula_in true) l.0.1 hs.0.1) _ y hs.2 in
+    let ss = bound (steps_in true g.0.1 0) _ y g.2 in
+    let same = ok_same _ y ss.2 in
+    ap (λ (z : Lemma). is_among names z.name) (sym same) ∙ new_field names l.0.1 l.0.0 n.0 n.1
+
+pub new_given : (c : Setting) (p : Part) (r : Result Lemma TextFault) → c.later ≡ true → Gives (λ l. l) r (lemma_read c p) → IfOk r (λ l. is_among c.names l.name ≡ false)
+new_given c p (Ok l) e h = lemma_new c.names p l (lemma_is c p e ∙ h)
+new_given c p (Err d) e h = tt
 
 -- ---- whole notes
 
