@@ -27,7 +27,7 @@ use Rattle.notes_grammar.specs.Shapes.{Setting, is_among}
 use Rattle.notes_grammar.specs.Reading.{Headed, headed, tagged, field, list_of, all_of, ended, small, assertion_in, with_in, move_at, move_in, chunk_in, take_list, take_in, one_small, both_list, loop_list, skip_list, use_at, use_or, note_list, note_in, side_in, contract_in, contract_first, function_in, after_list, initial_in, formula_in, steps_in, new_name, name_in, lemma_in, notes_rest}
 use Rattle.notes_grammar.proofs.Exactness.{bound}
 use Rattle.notes_moves.proofs.Endings.{one_made, two_made}
-use Rattle.notes_moves.proofs.Kinds.{alike}
+use Rattle.notes_moves.proofs.Alike.{alike}
 use Rattle.annot_text.specs.declared.functions.Noted.{Noted}
 use Rattle.annot_text.specs.declared.functions.Noted.TheVariants as noted
 use Rattle.annot_text.specs.declared.uses.UseKind.{UseKind}

@@ -1,5 +1,5 @@
 use Rattle.notes_grammar.specs.Parts.{part_of}
-use Rattle.notes_moves.proofs.Kinds.{with_is}
+use Rattle.notes_moves.proofs.Alike.{with_is}
 use Rattle.notes_moves.proofs.assertions.read_with.Goals as goal
 
 pub returns : goal.returns

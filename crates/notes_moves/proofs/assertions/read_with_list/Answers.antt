@@ -1,5 +1,5 @@
 use Rattle.notes_grammar.specs.Parts.{parts_of}
-use Rattle.notes_moves.proofs.Kinds.{with_list_is}
+use Rattle.notes_moves.proofs.Alike.{with_list_is}
 use Rattle.notes_moves.proofs.assertions.read_with_list.Goals as goal
 
 pub returns : goal.returns

@@ -1,5 +1,5 @@
 use Rattle.notes_grammar.specs.Parts.{part_of}
-use Rattle.notes_moves.proofs.Kinds.{chunk_is}
+use Rattle.notes_moves.proofs.Alike.{chunk_is}
 use Rattle.notes_moves.proofs.chunks.read_chunk.Goals as goal
 
 pub returns : goal.returns

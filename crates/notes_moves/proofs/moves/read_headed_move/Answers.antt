@@ -1,5 +1,5 @@
 use Rattle.notes_parts.specs.Seen.{headed_seen}
-use Rattle.notes_moves.proofs.Kinds.{move_headed_is}
+use Rattle.notes_moves.proofs.Alike.{move_headed_is}
 use Rattle.notes_moves.proofs.moves.read_headed_move.Goals as goal
 
 pub returns : goal.returns

@@ -1,5 +1,5 @@
 use Rattle.notes_grammar.specs.Parts.{part_of}
-use Rattle.notes_moves.proofs.Kinds.{move_is}
+use Rattle.notes_moves.proofs.Alike.{move_is}
 use Rattle.notes_moves.proofs.moves.read_move.Goals as goal
 
 pub returns : goal.returns
