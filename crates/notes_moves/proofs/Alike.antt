@@ -1,10 +1,12 @@
 -- Lists that are read by their kinds are read as the grammar says.
-use Rattle.std.proofs.Common.{◌≡◌, ℕ, Bool, true, false, if◌then◌else◌, Result, Ok, Err, refl, sym, ap, ◌∙◌}
+use Rattle.std.proofs.Common.{◌≡◌, ℕ, Bool, true, false, if◌then◌else◌, Result, Ok, Err, List, refl, sym, ap}
 use Rattle.std.specs.Prelude.{codes}
 use Rattle.sexp_text.specs.declared.fault.TextFault.{TextFault}
 use Rattle.sexp_text.specs.Reading.{◌>>=◌}
 use Rattle.term_trees.specs.declared.term.Term.{Term}
 use Rattle.term_trees.specs.declared.term.Formula.{Formula}
+use Rattle.bitvector_rules.specs.declared.step.Step.{Step}
+use Rattle.notes.specs.declared.chunk.Chunk.{Chunk}
 use Rattle.notes.specs.declared.chunk.Chunk.TheVariants as chunk
 use Rattle.notes.specs.declared.assertion.Assertion.{Assertion}
 use Rattle.notes.specs.declared.uses.With.{With}
@@ -72,14 +74,14 @@ pub assertion_is : (later : Bool) (p : Part) → assertion_in later p ≡ assert
 unfolding assertion_in
 assertion_is later p = alike (tagged (codes "assert") p) _ _ (λ l. three_made made small (list_of (formula_in later)) (list_of (chunk_in later)) l.1 l.0)
   where
-    made : _ → _ → _ → Assertion
+    made : ℕ → List Formula → List Chunk → Assertion
     made n fs cs = record { own = n; formulas = fs; chunks = cs }
 
 pub with_list_is : (later : Bool) (close : ℕ) (ps : Parts) → with_list later close ps ≡ with_parts later close ps
 unfolding with_list
 with_list_is later close ps = three_made made (list_of (term_in later)) (list_of small) (list_of small) close ps
   where
-    made : _ → _ → _ → With
+    made : List Term → List ℕ → List ℕ → With
     made ts fs cs = record { terms = ts; facts = fs; chunks = cs }
 
 pub with_is : (later : Bool) (p : Part) → with_in later p ≡ with_read later p
@@ -121,31 +123,31 @@ heap_same later h k = refl
 
 -- ---- moves
 
-have_same : (later : Bool) (close : ℕ) (ps : Parts) → have_list later close ps ≡ (derivation_read later close ps >>= λ x. Ok (move.Have x.0 x.1))
-unfolding have_list
-have_same later close ps = by (field (formula_in later) close ps)
+derived : Formula → List Step → Formula × List Step
+derived f ss = (f, ss)
+
+-- a formula and its steps, and what is made of them
+made_of : (later : Bool) (make : Formula → List Step → Move) (close : ℕ) (ps : Parts) →
+    (field (formula_in later) close ps >>= λ f. steps_in later f.1 0 >>= λ ss. Ok (make f.0 ss)) ≡ (derivation_read later close ps >>= λ x. Ok (make x.0 x.1))
+unfolding derived
+made_of later make close ps = by (field (formula_in later) close ps)
   where
-    by_steps : (f : Formula) (r : Result _ TextFault) → (r >>= λ ss. Ok (move.Have f ss)) ≡ ((r >>= λ ss. Ok (f, ss)) >>= λ x. Ok (move.Have x.0 x.1))
+    by_steps : (f : Formula) (r : Result (List Step) TextFault) → (r >>= λ ss. Ok (make f ss)) ≡ ((r >>= λ ss. Ok (derived f ss)) >>= λ x. Ok (make x.0 x.1))
     by_steps f (Ok ss) = refl
     by_steps f (Err e) = refl
 
     by : (r : Result (Formula × Parts) TextFault) →
-        (r >>= λ f. steps_in later f.1 0 >>= λ ss. Ok (move.Have f.0 ss)) ≡ ((r >>= λ f. steps_in later f.1 0 >>= λ ss. Ok (f.0, ss)) >>= λ x. Ok (move.Have x.0 x.1))
+        (r >>= λ f. steps_in later f.1 0 >>= λ ss. Ok (make f.0 ss)) ≡ ((r >>= λ f. steps_in later f.1 0 >>= λ ss. Ok (derived f.0 ss)) >>= λ x. Ok (make x.0 x.1))
     by (Ok f) = by_steps f.0 (steps_in later f.1 0)
     by (Err e) = refl
 
+have_same : (later : Bool) (close : ℕ) (ps : Parts) → have_list later close ps ≡ (derivation_read later close ps >>= λ x. Ok (move.Have x.0 x.1))
+unfolding have_list
+have_same later close ps = made_of later (λ f ss. move.Have f ss) close ps
+
 each_same : (later : Bool) (close : ℕ) (ps : Parts) → each_list later close ps ≡ each_read later close ps
 unfolding each_list
-each_same later close ps = alike (field small close ps) _ _ (λ c. by c.0 (field (formula_in later) close c.1))
-  where
-    by_steps : (k : ℕ) (f : Formula) (r : Result _ TextFault) → (r >>= λ ss. Ok (move.Each k f ss)) ≡ ((r >>= λ ss. Ok (f, ss)) >>= λ x. Ok (move.Each k x.0 x.1))
-    by_steps k f (Ok ss) = refl
-    by_steps k f (Err e) = refl
-
-    by : (k : ℕ) (r : Result (Formula × Parts) TextFault) →
-        (r >>= λ f. steps_in later f.1 0 >>= λ ss. Ok (move.Each k f.0 ss)) ≡ ((r >>= λ f. steps_in later f.1 0 >>= λ ss. Ok (f.0, ss)) >>= λ x. Ok (move.Each k x.0 x.1))
-    by k (Ok f) = by_steps k f.0 (steps_in later f.1 0)
-    by k (Err e) = refl
+each_same later close ps = alike (field small close ps) _ _ (λ c. made_of later (λ f ss. move.Each c.0 f ss) close c.1)
 
 put_same : (later : Bool) (close : ℕ) (ps : Parts) → put_list later close ps ≡ put_read later close ps
 unfolding put_list

@@ -1,10 +1,10 @@
 -- A list of a few parts, and what is made of them.
-use Rattle.std.proofs.Common.{◌≡◌, ℕ, Result, Ok, Err, refl, ap}
+use Rattle.std.proofs.Common.{◌≡◌, ℕ, Result, Ok, Err, refl}
 use Rattle.sexp_text.specs.declared.fault.TextFault.{TextFault}
 use Rattle.sexp_text.specs.Reading.{◌>>=◌}
 use Rattle.notes_grammar.specs.Parts.{Part, Parts, Nil, Cons}
 use Rattle.notes_grammar.specs.Reading.{field, ended}
-use Rattle.notes_terms.specs.Fields.{whole_one, whole_two, whole_three, whole_four}
+use Rattle.notes_terms.specs.Fields.{whole_one, whole_two, whole_three}
 
 ended_made : {A X : Type 0} (f : A → X) (x : A) (ps : Parts) → ended (f x) ps ≡ (ended x ps >>= λ y. Ok (f y))
 ended_made f x Nil = refl

@@ -15,11 +15,7 @@ use term_trees::{Formula, Term};
 use wasm_values::List;
 
 /// The assertion of a list's parts.
-fn assertion_of_parts(
-    alloc: Global,
-    context: &Context,
-    part: &Sexp,
-) -> Result<Assertion, TextFault>
+fn assertion_of_parts(alloc: Global, context: &Context, part: &Sexp) -> Result<Assertion, TextFault>
     ensures { Gives (λ a. a) result (assertion_read context.now.later (part_of part.now)) }
 {
     let (parts, close) = tagged("assert", part)?;

@@ -157,11 +157,7 @@ fn move_formed(
 }
 
 /// The move of a list that begins with a word, by the kind of the list.
-fn move_headed(
-    alloc: Global,
-    context: &Context,
-    headed: &Headed<'_>,
-) -> Result<Move, TextFault>
+fn move_headed(alloc: Global, context: &Context, headed: &Headed<'_>) -> Result<Move, TextFault>
     ensures { Gives (λ m. m) result (move_headed context.now (headed_seen headed.now)) }
 {
     let kind = move_kind(context.is_later(), headed.head);
