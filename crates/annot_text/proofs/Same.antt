@@ -1,5 +1,5 @@
 -- Takes, uses, notes, functions, lemmas and whole notes are read from their parts as the grammar says.
-use Rattle.std.proofs.Common.{◌≡◌, ℕ, Bool, true, false, cond, List, [], ◌∷◌, Option, Some, None, Result, Ok, Err, IfOk, refl, sym, ap, ◌∙◌}
+use Rattle.std.proofs.Common.{◌≡◌, ℕ, Bool, true, false, cond, List, [], ◌∷◌, Option, Some, None, Result, Ok, Err, IfOk, refl, sym, ap, ◌∙◌, subst}
 use Rattle.std.specs.Prelude.{codes}
 use Rattle.std.specs.Option.{option_map}
 use Rattle.sexp_text.specs.declared.fault.TextFault.{TextFault}
@@ -24,7 +24,7 @@ use Rattle.notes_grammar.specs.declared.head.Head.{Head}
 use Rattle.notes_grammar.specs.declared.head.Head.TheVariants as head
 use Rattle.notes_grammar.specs.Parts.{Part, Parts, Nil, Cons, place}
 use Rattle.notes_grammar.specs.Shapes.{Setting, is_among}
-use Rattle.notes_grammar.specs.Reading.{Headed, headed, tagged, field, list_of, all_of, ended, small, assertion_in, with_in, move_at, move_in, chunk_in, take_list, take_in, one_small, both_list, loop_list, skip_list, use_at, use_or, note_list, note_in, side_in, contract_in, contract_first, function_in, after_list, initial_in, formula_in, steps_in, new_name, name_in, lemma_in, notes_rest}
+use Rattle.notes_grammar.specs.Reading.{Headed, headed, tagged, field, list_of, all_of, ended, small, assertion_in, with_in, move_at, move_in, chunk_in, take_list, take_in, one_small, both_list, loop_list, skip_list, use_at, use_or, note_list, note_in, side_in, contract_in, contract_first, function_in, after_list, initial_in, formula_in, steps_in, new_name, name_in, lemma_in, lemmas_of, notes_rest}
 use Rattle.notes_grammar.proofs.Exactness.{bound}
 use Rattle.notes_moves.proofs.Endings.{one_made, two_made}
 use Rattle.notes_moves.proofs.Alike.{alike}
@@ -34,7 +34,7 @@ use Rattle.annot_text.specs.declared.uses.UseKind.{UseKind}
 use Rattle.annot_text.specs.words.Uses.{take_parts, take_read, use_kind, both_read, loop_read, skip_read, use_formed}
 use Rattle.annot_text.specs.words.Functions.{use_or_move, noted_headed, noted_in, noted_then, note_parts, note_read, side_read, contract_read, function_parts, function_read, initial_parts, initial_read}
 use Rattle.annot_text.specs.words.Lemmas.{Claim, lemma_parts, lemma_read}
-use Rattle.annot_text.specs.words.Wholes.{Front, rest_read, with_lemmas}
+use Rattle.annot_text.specs.words.Wholes.{Front, rest_read, with_lemmas, setting_of, behind_version}
 
 -- ---- takes and uses
 
@@ -105,7 +105,6 @@ part_same c ps h same =
     by_kind None = by_move (move_at c h h.head)
 
 pub note_list_same : (c : Setting) (ps : Parts) → note_list c ps ≡ note_parts c ps
-unfolding note_list
 note_list_same c Nil = refl
 note_list_same c (Cons p ps) = by (note_list_same c ps) (headed p)
   where
@@ -198,6 +197,7 @@ initial_is c p = alike (tagged (codes "initial") p) _ _ (λ l. by_chunks l.1 (fi
 -- ---- lemmas
 
 pub lemma_is : (c : Setting) (p : Part) → c.later ≡ true → lemma_in c.names p ≡ lemma_read c p
+unfolding lemma_in
 lemma_is c p e = here c.names p ∙ ap (λ b. lemma_read (setting b c.names) p) (sym e)
   where
     setting : Bool → List (List ℕ) → Setting
@@ -246,7 +246,6 @@ lemma_is c p e = here c.names p ∙ ap (λ b. lemma_read (setting b c.names) p) 
     by_name close (Err e) = refl
 
     here : (ns : List (List ℕ)) (p : Part) → lemma_in ns p ≡ lemma_read (setting true ns) p
-    unfolding lemma_in
     here ns p = alike (tagged (codes "lemma") p) _ _ (λ l. by_name l.1 (field (new_name ns) l.1 l.0))
 
 ok_same : {A : Type 0} (x y : A) → ◌≡◌ {A = Result A TextFault} (Ok x) (Ok y) → x ≡ y
@@ -322,3 +321,11 @@ rest_is c ls close ps = by_invariant (field (assertion_in c.later) close ps)
         ≡ (((r >>= λ a. field (initial_in c) close a.1 >>= λ i. Ok (fields a.0 i.0 i.1)) >>= joins) >>= λ x. Ok (made x.0 x.1))
     by_invariant (Ok a) = by_initial a.0 (field (initial_in c) close a.1)
     by_invariant (Err e) = refl
+
+-- what is read behind the version, by its lemmas and what is behind them
+pub rest_given : (later : Bool) (close : ℕ) (ps qs : Parts) (ls : List Lemma) (c : Setting) (r : Result Notes TextFault) → lemmas_of later ps ≡ Ok (ls, qs) → c ≡ setting_of later ls →
+    Gives (λ n. n) r (with_lemmas ls (rest_read c close qs)) → Gives (λ n. n) r (behind_version later close ps)
+rest_given later close ps qs ls c r g e h =
+    let whole : with_lemmas ls (rest_read c close qs) ≡ behind_version later close ps =
+    sym (rest_is c ls close qs) ∙ ap (λ k. notes_rest k ls close qs) e ∙ sym (ap (λ x. x >>= λ y. notes_rest (setting_of later y.0) y.0 close y.1) g) in
+    subst (λ s. Gives {X = Notes} {Y = Notes} (λ n. n) r s) whole h
