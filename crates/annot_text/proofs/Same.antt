@@ -28,12 +28,11 @@ use Rattle.notes_grammar.specs.Reading.{Headed, headed, tagged, field, list_of, 
 use Rattle.notes_grammar.proofs.Exactness.{bound}
 use Rattle.notes_moves.proofs.Endings.{one_made, two_made}
 use Rattle.notes_moves.proofs.Alike.{alike}
-use Rattle.annot_text.specs.declared.functions.Noted.{Noted}
 use Rattle.annot_text.specs.declared.functions.Noted.TheVariants as noted
 use Rattle.annot_text.specs.declared.uses.UseKind.{UseKind}
 use Rattle.annot_text.specs.words.Uses.{take_parts, take_read, use_kind, both_read, loop_read, skip_read, use_formed}
-use Rattle.annot_text.specs.words.Functions.{use_or_move, noted_headed, noted_in, noted_then, note_parts, note_read, side_read, contract_read, function_parts, function_read, initial_parts, initial_read}
-use Rattle.annot_text.specs.words.Lemmas.{Claim, lemma_parts, lemma_read}
+use Rattle.annot_text.specs.words.Functions.{use_or_move, noted_headed, noted_then, note_parts, note_read, side_read, contract_read, function_read, initial_read}
+use Rattle.annot_text.specs.words.Lemmas.{Claim, lemma_read}
 use Rattle.annot_text.specs.words.Wholes.{Front, rest_read, with_lemmas, setting_of, behind_version}
 
 -- ---- takes and uses

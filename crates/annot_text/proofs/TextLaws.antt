@@ -1,5 +1,5 @@
 -- What reading a text answers.
-use Rattle.std.proofs.Common.{◌≡◌, ◌⊎◌, ℕ, List, Result, Ok, Err, IfOk, IfErr, refl, ap, ◌∙◌, inl, inr, subst, sym}
+use Rattle.std.proofs.Common.{◌≡◌, ◌⊎◌, ℕ, List, Result, Ok, Err, IfOk, IfErr, refl, ap, inl, inr, subst, sym}
 use Rattle.sexp_text.specs.declared.fault.TextFault.{TextFault}
 use Rattle.sexp_text.specs.declared.fault.TextFault.TheVariants.{Refused, Limit, OutOfMemory}
 use Rattle.sexp_text.specs.declared.sexp.Sexp.{Sexp}

@@ -10,9 +10,7 @@ use crate::uses::{Takes, use_formed, use_kind};
 use notes::{Assertion, Chunk, Contract, FuncNotes, Initial, Move, Note, Take, Use, With};
 use notes_moves::{Assertions, Chunks, Moves, Withs, joined, read_headed_move};
 use notes_parts::{Context, Headed, ended, headed_list, is_tagged, tagged};
-use notes_terms::{
-    Entry, Lists, Smalls, entries, entry_field, three_fields, whole_one, whole_two,
-};
+use notes_terms::{Entry, Lists, Smalls, entries, entry_field, three_fields, whole_one, whole_two};
 use sexp_text::{Sexp, TextFault};
 use std::alloc::Global;
 use wasm_values::List;
@@ -25,11 +23,7 @@ pub(crate) enum Noted {
 }
 
 /// The move or use of a list that begins with a word.
-fn noted_headed(
-    alloc: Global,
-    context: &Context,
-    headed: &Headed<'_>,
-) -> Result<Noted, TextFault>
+fn noted_headed(alloc: Global, context: &Context, headed: &Headed<'_>) -> Result<Noted, TextFault>
     ensures { Gives (λ n. n) result (noted_headed context.now (headed_seen headed.now)) }
 {
     match use_kind(headed.head) {
@@ -151,9 +145,7 @@ fn contract_of_parts(alloc: Global, context: &Context, part: &Sexp) -> Result<Co
     ensures { Gives (λ k. k) result (contract_read context.now.later (part_of part.now)) }
 {
     let (parts, close) = tagged("contract", part)?;
-    let (pre, post) = whole_two::<Assertion, Pres, Assertion, Posts>(
-        alloc, context, close, parts,
-    )?;
+    let (pre, post) = whole_two::<Assertion, Pres, Assertion, Posts>(alloc, context, close, parts)?;
     Ok(Contract { pre, post })
 }
 
@@ -192,7 +184,10 @@ fn function_parts(
     ensures { Gives (λ x. x) result (function_parts context.now (parts_of parts.now)) }
 {
     let (contract, rest) = contract_first(alloc, context, parts)?;
-    joined(contract, entries::<Note, InstructionNotes>(alloc, context, rest))
+    joined(
+        contract,
+        entries::<Note, InstructionNotes>(alloc, context, rest),
+    )
 }
 
 /// The notes of a function of a list's parts.
@@ -210,7 +205,11 @@ fn function_of_parts(alloc: Global, context: &Context, part: &Sexp) -> Result<Fu
 }
 
 /// The notes of a function.
-pub(crate) fn read_function(alloc: Global, context: &Context, part: &Sexp) -> Result<FuncNotes, TextFault>
+pub(crate) fn read_function(
+    alloc: Global,
+    context: &Context,
+    part: &Sexp,
+) -> Result<FuncNotes, TextFault>
     ensures { Gives (λ f. f) result (function_in context.now (part_of part.now)) }
 {
     function_of_parts(alloc, context, part)
@@ -229,11 +228,7 @@ impl Entry<FuncNotes> for Functions {
 
 /// A take, if there is one, and no more.
 #[tactic(auto, unfolding(notes_grammar::specs::Reading::after_list))]
-fn after_parts(
-    alloc: Global,
-    context: &Context,
-    parts: &[Sexp],
-) -> Result<Option<Take>, TextFault>
+fn after_parts(alloc: Global, context: &Context, parts: &[Sexp]) -> Result<Option<Take>, TextFault>
     ensures { Gives (λ t. t) result (after_list context.now (parts_of parts.now)) }
 {
     match parts {
@@ -280,7 +275,11 @@ fn initial_of_parts(alloc: Global, context: &Context, part: &Sexp) -> Result<Ini
 }
 
 /// An initial part.
-pub(crate) fn read_initial(alloc: Global, context: &Context, part: &Sexp) -> Result<Initial, TextFault>
+pub(crate) fn read_initial(
+    alloc: Global,
+    context: &Context,
+    part: &Sexp,
+) -> Result<Initial, TextFault>
     ensures { Gives (λ i. i) result (initial_in context.now (part_of part.now)) }
 {
     initial_of_parts(alloc, context, part)

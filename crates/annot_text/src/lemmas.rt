@@ -68,11 +68,7 @@ fn read_lemma(alloc: Global, context: &Context, part: &Sexp) -> Result<Lemma, Te
 }
 
 /// Adds the name of a lemma that is new, and the lemma.
-fn add_lemma(
-    context: &mut Context,
-    lemmas: &mut List<Lemma>,
-    lemma: Lemma,
-) -> Result<(), TextFault>
+fn add_lemma(context: &mut Context, lemmas: &mut List<Lemma>, lemma: Lemma) -> Result<(), TextFault>
     requires { is_among context.old.names lemma.name ≡ false }
     ensures lemmas { OnOk result (lemmas.new ≡ lemmas.old ++ lemma ∷ []) }
     ensures names { OnOk result (context.new.names ≡ context.old.names ++ lemma.name ∷ []) }

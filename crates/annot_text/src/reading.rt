@@ -52,7 +52,10 @@ fn read_rest(
     let (invariant, initial, rest) = two_fields::<Assertion, Assertions, Initial, Initials>(
         alloc, context, close, parts,
     )?;
-    joined((invariant, initial), entries::<FuncNotes, Functions>(alloc, context, rest))
+    joined(
+        (invariant, initial),
+        entries::<FuncNotes, Functions>(alloc, context, rest),
+    )
 }
 
 /// The notes of their parts, where what is behind the lemmas is read.
