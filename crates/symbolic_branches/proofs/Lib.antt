@@ -1,0 +1,4 @@
+pub mod Leaving
+pub mod Labelled
+pub mod Taking
+pub mod Tabling
