@@ -1,5 +1,5 @@
 -- Where the function is left: what its contract says, or the invariant.
-use Rattle.std.proofs.Common.{◌≡◌, ℕ, Bool, true, List, [], ◌∷◌, Option, Some, None, IsTrue, refl, ap}
+use Rattle.std.proofs.Common.{◌≡◌, ◌∙◌, ℕ, Bool, true, false, List, [], ◌∷◌, Option, Some, None, IsTrue, refl, ap}
 use Rattle.std.specs.Prelude.{find, if◌then◌else◌, option_and_then, Ok, ◌==◌}
 use Rattle.std.specs.List.{list_all}
 use Rattle.term_trees.proofs.Truths.{both}

@@ -18,7 +18,7 @@ use Rattle.symbolic_state.proofs.Grows.{grown-same, grown-then, id-kept}
 -- there is a branch for each label, and one for the last
 pub length-table : (i : ℕ) (ks : List ℕ) (last : ℕ) (t : Term) → length (table_branches i ks last t) ≡ length ks + 1
 length-table i [] last t = refl
-length-table i (k ∷ ks) last t = ap suc (length-table (suc i) ks last t)
+length-table i (k ∷ ks) last t = omega (arith, length-table (suc i) ks last t)
 
 pub ruleset tables = (length-table)
 
