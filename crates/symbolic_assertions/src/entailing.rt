@@ -35,6 +35,9 @@ pub fn entails(
     ensures state { IfOk result (λ _. state.new.state ≡ state.old.state) }
     ensures kept { IfOk result (λ _. Grown state.old state.new) }
 {
-    let _ = (alloc, &state, wanted, with);
+    let _ = alloc;
+    let _ = &state;
+    let _ = wanted;
+    let _ = with;
     Err(Refused::OutOfMemory)
 }

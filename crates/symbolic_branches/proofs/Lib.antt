@@ -1,4 +1,4 @@
-pub mod Leaving
+pub mod Leavings
 pub mod Labelled
-pub mod Taking
+pub mod Takings
 pub mod Tabling

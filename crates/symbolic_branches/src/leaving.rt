@@ -1,11 +1,12 @@
 // Control that leaves the function.
 
-ghost use Rattle.std.specs.Prelude.{◌≡◌, ◌<◌, length, IfOk, IfSome, IsTrue};
+ghost use Rattle.std.specs.Prelude.{◌≡◌, ◌<◌, [], length, map, IfOk, IfSome, IsTrue};
+ghost use Rattle.std.specs.List.{All};
 ghost use Rattle.std.specs.Option.{option_map};
 ghost use Rattle.wasm_values.specs.Answers.{Gives};
 ghost use Rattle.term_logic.specs.Table.{tree_at};
-ghost use Rattle.notes.specs.WellFormed.{well_formed_assertion, well_formed_with, well_formed_contract, well_formed_notes};
-ghost use Rattle.outline_rules.specs.Settings.{func_type, result_type_of, contract_of};
+ghost use Rattle.notes.specs.WellFormed.{well_formed_assertion, well_formed_with, well_formed_notes};
+ghost use Rattle.outline_rules.specs.Settings.{func_type, result_type_of, contract_of, invariant_of};
 ghost use Rattle.outline_rules.specs.Branches.{leaves_function};
 ghost use Rattle.symbolic_state.specs.Refused.{refusal_of};
 ghost use Rattle.symbolic_state.specs.Growth.{Grown};
@@ -28,7 +29,7 @@ fn result_type(setting: &Setting<'_>, func: u32) -> Option<ValType>
 }
 
 /// The contract of a function, where it has one.
-#[tactic(auto, using(crate::proofs::Leaving::contracts))]
+#[tactic(auto, using(crate::proofs::Leavings::contracts))]
 fn contract_of<'a>(setting: &Setting<'a>, func: u32) -> Option<&'a Contract>
     requires { IsTrue (well_formed_notes setting.now.notes) }
     ensures contract { option_map (λ k. k.now) result ≡ contract_of setting.now func }
@@ -116,7 +117,7 @@ fn leaves_by(
 }
 
 /// The state entails the invariant.
-#[tactic(auto, using(crate::proofs::Leaving::invariants))]
+#[tactic(auto, using(crate::proofs::Leavings::invariants))]
 fn entails_invariant(
     alloc: Global,
     state: &mut TrackedState,
@@ -143,7 +144,7 @@ fn entails_invariant(
 }
 
 /// The function is left: the state entails its postcondition, or the invariant where it has no contract.
-#[tactic(auto, using(crate::proofs::Leaving::leavings, symbolic_state::proofs::Grows::grown, symbolic_state::proofs::Grows::grown_ids))]
+#[tactic(auto, using(crate::proofs::Leavings::leavings, symbolic_state::proofs::Grows::grown, symbolic_state::proofs::Grows::grown_ids))]
 pub fn leaves_function(
     alloc: Global,
     state: &mut TrackedState,

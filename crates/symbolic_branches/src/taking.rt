@@ -20,7 +20,7 @@ use symbolic_state::{Refused, TrackedState};
 use term_logic::IdFormula;
 
 /// The moves of a take are made, and then the branch is taken. The state isn't that before.
-#[tactic(auto, using(crate::proofs::Taking::take_parts, symbolic_state::proofs::Grows::grown, symbolic_state::proofs::Grows::grown_ids))]
+#[tactic(auto, using(crate::proofs::Takings::take_parts, symbolic_state::proofs::Grows::grown, symbolic_state::proofs::Grows::grown_ids))]
 fn branches_moved(
     alloc: Global,
     state: &mut TrackedState,
@@ -64,7 +64,7 @@ fn branches_with(
 }
 
 /// A branch with a take: on the state with a fact the moves are made, and then the branch is taken. The state stays as it was.
-#[tactic(auto, using(crate::proofs::Taking::coming_back))]
+#[tactic(auto, using(crate::proofs::Takings::coming_back))]
 pub fn takes_branch(
     alloc: Global,
     state: &mut TrackedState,

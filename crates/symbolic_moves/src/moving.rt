@@ -25,6 +25,9 @@ pub fn make_moves(
     ensures done { Gives refusal_of (λ _. state.new.state) result (moved setting.now moves.now state.old.state) }
     ensures kept { IfOk result (λ _. Grown state.old state.new) }
 {
-    let _ = (alloc, &state, setting, moves);
+    let _ = alloc;
+    let _ = &state;
+    let _ = setting;
+    let _ = moves;
     Err(Refused::OutOfMemory)
 }

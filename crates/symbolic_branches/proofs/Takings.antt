@@ -34,4 +34,4 @@ module _ (a b c : Tracked) (snapshot : Snapshot) (remembers : Remembers a.terms 
       let is = back a.state (remembers-kept a.terms b.terms more.terms snapshot a.state remembers) (follows-grown a b more) in
       subst (Grown a) (sym is) (grown-table a (record b { state = a.state }) more.terms refl)
 
-pub ruleset coming_back = (restorable, state-back, grown-back)
+pub ruleset coming_back = (restorable)
