@@ -1,6 +1,0 @@
-//! STUB of another helper's crate: contracts alone.
-#![tactic(auto)]
-
-mod entailing;
-
-pub use entailing::{Wanted, entails};
