@@ -1,13 +1,13 @@
 // Branches to labels by their numbers.
 
-ghost use Rattle.std.specs.Prelude.{◌≡◌, slice_get, IfOk, IfSome, IsTrue};
+ghost use Rattle.std.specs.Prelude.{◌≡◌, slice_get, IfOk, IsTrue};
 ghost use Rattle.std.specs.Option.{option_map};
 ghost use Rattle.wasm_values.specs.Answers.{Gives};
-ghost use Rattle.notes.specs.WellFormed.{well_formed_assertion, well_formed_with, well_formed_notes};
+ghost use Rattle.notes.specs.WellFormed.{well_formed_with};
 ghost use Rattle.outline_rules.specs.Branches.{branches};
 ghost use Rattle.symbolic_state.specs.Refused.{refusal_of};
 ghost use Rattle.symbolic_state.specs.Growth.{Grown};
-ghost use Rattle.symbolic_branches.specs.Labels.{label_of_entry, labels_of, AreWellFormed};
+ghost use Rattle.symbolic_branches.specs.Labels.{label_of_entry, labels_of};
 ghost use Rattle.symbolic_branches.specs.words.Parts.{branches_to};
 
 use crate::labels::{Label, reaches};
@@ -19,9 +19,7 @@ use symbolic_state::{Refused, TrackedState};
 
 /// The label with a number, the innermost being the 0-th, which stands last.
 fn label_at<'a, 'b>(labels: &'b [Label<'a>], k: u32) -> Option<&'b Label<'a>>
-    requires { AreWellFormed labels.now }
-    ensures label { option_map (λ l. label_of_entry l.now) result ≡ slice_get (labels_of labels.now) k }
-    ensures well_formed { IfSome result (λ l. IsTrue (well_formed_assertion l.now.assertion.now)) }
+    ensures { option_map (λ l. label_of_entry l.now) result ≡ slice_get (labels_of labels.now) k }
 {
     let k = k as usize;
     if k < labels.len() {
@@ -40,9 +38,7 @@ fn branches_to(
     label: Option<&Label<'_>>,
     with: &With,
 ) -> Result<(), Refused>
-    requires notes { IsTrue (well_formed_notes setting.now.notes) }
-    requires label { IfSome label (λ l. IsTrue (well_formed_assertion l.now.assertion.now)) }
-    requires with { IsTrue (well_formed_with with.now) }
+    requires { IsTrue (well_formed_with with.now) }
     ensures done { Gives refusal_of (λ _. tt) result (branches_to setting.now func (option_map (λ l. label_of_entry l.now) label.entry) with.now state.old.state) }
     ensures state { IfOk result (λ _. state.new.state ≡ state.old.state) }
     ensures kept { IfOk result (λ _. Grown state.old state.new) }
@@ -64,9 +60,7 @@ pub fn branches(
     k: u32,
     with: &With,
 ) -> Result<(), Refused>
-    requires notes { IsTrue (well_formed_notes setting.now.notes) }
-    requires labels { AreWellFormed labels.now }
-    requires with { IsTrue (well_formed_with with.now) }
+    requires { IsTrue (well_formed_with with.now) }
     ensures done { Gives refusal_of (λ _. tt) result (branches setting.now func (labels_of labels.now) k with.now state.old.state) }
     ensures state { IfOk result (λ _. state.new.state ≡ state.old.state) }
     ensures kept { IfOk result (λ _. Grown state.old state.new) }

@@ -5,7 +5,7 @@ ghost use Rattle.std.specs.List.{All};
 ghost use Rattle.std.specs.Option.{option_map};
 ghost use Rattle.wasm_values.specs.Answers.{Gives};
 ghost use Rattle.term_logic.specs.Table.{tree_at};
-ghost use Rattle.notes.specs.WellFormed.{well_formed_assertion, well_formed_with};
+ghost use Rattle.notes.specs.WellFormed.{well_formed_with};
 ghost use Rattle.symbolic_state.specs.Refused.{refusal_of};
 ghost use Rattle.symbolic_state.specs.Growth.{Grown};
 ghost use Rattle.symbolic_branches.specs.words.Parts.{entails_with};
@@ -26,7 +26,6 @@ pub(crate) fn entails_with(
     fixed: &[TermId],
     with: &With,
 ) -> Result<(), Refused>
-    requires assertion { IsTrue (well_formed_assertion assertion.now) }
     requires args { All (λ id. id < length state.old.terms) args.now }
     requires passed_on { IfSome passed_on (λ id. id < length state.old.terms) }
     requires fixed { All (λ id. id < length state.old.terms) fixed.now }

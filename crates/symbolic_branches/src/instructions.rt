@@ -9,7 +9,7 @@ ghost use Rattle.outline_rules.specs.Branches.{branches, leaves_function, takes_
 ghost use Rattle.symbolic_state.specs.Refused.{refusal_of};
 ghost use Rattle.symbolic_state.specs.Growth.{Grown};
 ghost use Rattle.symbolic_steps.specs.words.Withs.{with_or_empty};
-ghost use Rattle.symbolic_branches.specs.Labels.{labels_of, AreWellFormed};
+ghost use Rattle.symbolic_branches.specs.Labels.{labels_of};
 ghost use Rattle.symbolic_branches.specs.words.Parts.{branches_on};
 
 use crate::branching::branches;
@@ -35,9 +35,7 @@ fn branches_by(
     k: u32,
     with: Option<&With>,
 ) -> Result<(), Refused>
-    requires notes { IsTrue (well_formed_notes setting.now.notes) }
-    requires labels { AreWellFormed labels.now }
-    requires with { IsTrue (well_formed_with (with_or_empty (option_map (λ w. w.now) with))) }
+    requires { IsTrue (well_formed_with (with_or_empty (option_map (λ w. w.now) with))) }
     ensures done { Gives refusal_of (λ _. tt) result (branches setting.now func (labels_of labels.now) k (with_or_empty (option_map (λ w. w.now) with.entry)) state.old.state) }
     ensures state { IfOk result (λ _. state.new.state ≡ state.old.state) }
     ensures kept { IfOk result (λ _. Grown state.old state.new) }
@@ -61,9 +59,7 @@ pub fn br(
     k: u32,
     used: &Use,
 ) -> Result<(), Refused>
-    requires notes { IsTrue (well_formed_notes setting.now.notes) }
-    requires labels { AreWellFormed labels.now }
-    requires used { IsTrue (well_formed_use used.now) }
+    requires { IsTrue (well_formed_use used.now) }
     ensures done { Gives refusal_of (λ _. tt) result (br setting.now func (labels_of labels.now) k used.now state.old.state) }
     ensures state { IfOk result (λ _. state.new.state ≡ state.old.state) }
     ensures kept { IfOk result (λ _. Grown state.old state.new) }
@@ -80,8 +76,7 @@ fn leaves_by(
     func: u32,
     with: Option<&With>,
 ) -> Result<(), Refused>
-    requires notes { IsTrue (well_formed_notes setting.now.notes) }
-    requires with { IsTrue (well_formed_with (with_or_empty (option_map (λ w. w.now) with))) }
+    requires { IsTrue (well_formed_with (with_or_empty (option_map (λ w. w.now) with))) }
     ensures done { Gives refusal_of (λ _. tt) result (leaves_function setting.now func (with_or_empty (option_map (λ w. w.now) with.entry)) state.old.state) }
     ensures state { IfOk result (λ _. state.new.state ≡ state.old.state) }
     ensures kept { IfOk result (λ _. Grown state.old state.new) }
@@ -103,8 +98,7 @@ pub fn return_(
     func: u32,
     used: &Use,
 ) -> Result<(), Refused>
-    requires notes { IsTrue (well_formed_notes setting.now.notes) }
-    requires used { IsTrue (well_formed_use used.now) }
+    requires { IsTrue (well_formed_use used.now) }
     ensures done { Gives refusal_of (λ _. tt) result (return_ setting.now func used.now state.old.state) }
     ensures state { IfOk result (λ _. state.new.state ≡ state.old.state) }
     ensures kept { IfOk result (λ _. Grown state.old state.new) }
@@ -138,7 +132,6 @@ fn takes_nonzero(
     take: &Take,
 ) -> Result<(), Refused>
     requires notes { IsTrue (well_formed_notes setting.now.notes) }
-    requires labels { AreWellFormed labels.now }
     requires condition { condition < length state.old.terms }
     requires take { IsTrue (well_formed_take take.now) }
     ensures done { Gives refusal_of (λ _. tt) result (takes_branch setting.now func (labels_of labels.now) k (is_not_zero (tree_at state.old.terms condition)) take.now state.old.state) }
@@ -173,7 +166,6 @@ fn branches_on(
     take: &Take,
 ) -> Result<(), Refused>
     requires notes { IsTrue (well_formed_notes setting.now.notes) }
-    requires labels { AreWellFormed labels.now }
     requires condition { condition < length state.old.terms }
     requires take { IsTrue (well_formed_take take.now) }
     ensures done { Gives refusal_of (λ _. state.new.state) result (branches_on setting.now func (labels_of labels.now) k (tree_at state.old.terms condition) take.now state.old.state) }
@@ -195,7 +187,6 @@ pub fn br_if(
     used: &Use,
 ) -> Result<(), Refused>
     requires notes { IsTrue (well_formed_notes setting.now.notes) }
-    requires labels { AreWellFormed labels.now }
     requires used { IsTrue (well_formed_use used.now) }
     ensures done { Gives refusal_of (λ _. state.new.state) result (br_if setting.now func (labels_of labels.now) k used.now state.old.state) }
     ensures kept { IfOk result (λ _. Grown state.old state.new) }

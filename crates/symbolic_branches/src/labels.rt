@@ -4,7 +4,7 @@ ghost use Rattle.std.specs.Prelude.{◌≡◌, ◌<◌, length, IfOk, IfSome, Is
 ghost use Rattle.std.specs.Option.{option_map};
 ghost use Rattle.wasm_values.specs.Answers.{Gives};
 ghost use Rattle.term_logic.specs.Table.{tree_at};
-ghost use Rattle.notes.specs.WellFormed.{well_formed_assertion, well_formed_with};
+ghost use Rattle.notes.specs.WellFormed.{well_formed_with};
 ghost use Rattle.outline_rules.specs.Branches.{passed, reaches};
 ghost use Rattle.symbolic_state.specs.Refused.{refusal_of};
 ghost use Rattle.symbolic_state.specs.Growth.{Grown};
@@ -51,8 +51,7 @@ pub fn reaches(
     label: &Label<'_>,
     with: &With,
 ) -> Result<(), Refused>
-    requires assertion { IsTrue (well_formed_assertion label.now.assertion.now) }
-    requires with { IsTrue (well_formed_with with.now) }
+    requires { IsTrue (well_formed_with with.now) }
     ensures done { Gives refusal_of (λ _. tt) result (reaches (label_of_entry label.now) with.now state.old.state) }
     ensures state { IfOk result (λ _. state.new.state ≡ state.old.state) }
     ensures kept { IfOk result (λ _. Grown state.old state.new) }

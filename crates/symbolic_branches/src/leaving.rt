@@ -5,8 +5,8 @@ ghost use Rattle.std.specs.List.{All};
 ghost use Rattle.std.specs.Option.{option_map};
 ghost use Rattle.wasm_values.specs.Answers.{Gives};
 ghost use Rattle.term_logic.specs.Table.{tree_at};
-ghost use Rattle.notes.specs.WellFormed.{well_formed_assertion, well_formed_with, well_formed_notes};
-ghost use Rattle.outline_rules.specs.Settings.{func_type, result_type_of, contract_of, invariant_of};
+ghost use Rattle.notes.specs.WellFormed.{well_formed_with};
+ghost use Rattle.outline_rules.specs.Settings.{func_type, result_type_of, invariant_of};
 ghost use Rattle.outline_rules.specs.Branches.{leaves_function};
 ghost use Rattle.symbolic_state.specs.Refused.{refusal_of};
 ghost use Rattle.symbolic_state.specs.Growth.{Grown};
@@ -26,19 +26,6 @@ fn result_type(setting: &Setting<'_>, func: u32) -> Option<ValType>
     ensures { result ≡ result_type_of (func_type setting.now func) }
 {
     setting.func_type(func).results.as_slice().get(0).copied()
-}
-
-/// The contract of a function, where it has one.
-#[tactic(auto, using(crate::proofs::Leavings::contracts))]
-fn contract_of<'a>(setting: &Setting<'a>, func: u32) -> Option<&'a Contract>
-    requires { IsTrue (well_formed_notes setting.now.notes) }
-    ensures contract { option_map (λ k. k.now) result ≡ contract_of setting.now func }
-    ensures well_formed { IfSome result (λ k. IsTrue (well_formed_assertion k.now.post)) }
-{
-    match setting.contract_of(func) {
-        Some(contract) => Some(contract),
-        None => None,
-    }
 }
 
 /// A list that equals these terms.
@@ -74,7 +61,6 @@ fn entails_post(
     passed_on: Option<TermId>,
     with: &With,
 ) -> Result<(), Refused>
-    requires post { IsTrue (well_formed_assertion post.now) }
     requires passed_on { IfSome passed_on (λ id. id < length state.old.terms) }
     requires with { IsTrue (well_formed_with with.now) }
     ensures done { Gives refusal_of (λ _. tt) result (entails_with post.now state.old.state.args (option_map (tree_at state.old.terms) passed_on) state.old.state.given with.now state.old.state) }
@@ -102,8 +88,6 @@ fn leaves_by(
     passed_on: Option<TermId>,
     with: &With,
 ) -> Result<(), Refused>
-    requires notes { IsTrue (well_formed_notes setting.now.notes) }
-    requires contract { IfSome contract (λ k. IsTrue (well_formed_assertion k.now.post)) }
     requires passed_on { IfSome passed_on (λ id. id < length state.old.terms) }
     requires with { IsTrue (well_formed_with with.now) }
     ensures done { Gives refusal_of (λ _. tt) result (leaves_by setting.now (option_map (λ k. k.now) contract.entry) (option_map (tree_at state.old.terms) passed_on) with.now state.old.state) }
@@ -117,7 +101,6 @@ fn leaves_by(
 }
 
 /// The state entails the invariant.
-#[tactic(auto, using(crate::proofs::Leavings::invariants))]
 fn entails_invariant(
     alloc: Global,
     state: &mut TrackedState,
@@ -125,7 +108,6 @@ fn entails_invariant(
     passed_on: Option<TermId>,
     with: &With,
 ) -> Result<(), Refused>
-    requires notes { IsTrue (well_formed_notes setting.now.notes) }
     requires passed_on { IfSome passed_on (λ id. id < length state.old.terms) }
     requires with { IsTrue (well_formed_with with.now) }
     ensures done { Gives refusal_of (λ _. tt) result (entails_with (invariant_of setting.now) [] (option_map (tree_at state.old.terms) passed_on) [] with.now state.old.state) }
@@ -152,13 +134,18 @@ pub fn leaves_function(
     func: u32,
     with: &With,
 ) -> Result<(), Refused>
-    requires notes { IsTrue (well_formed_notes setting.now.notes) }
-    requires with { IsTrue (well_formed_with with.now) }
+    requires { IsTrue (well_formed_with with.now) }
     ensures done { Gives refusal_of (λ _. tt) result (leaves_function setting.now func with.now state.old.state) }
     ensures state { IfOk result (λ _. state.new.state ≡ state.old.state) }
     ensures kept { IfOk result (λ _. Grown state.old state.new) }
 {
     let passed_on = passed(state, result_type(setting, func))?;
-    let contract = contract_of(setting, func);
-    leaves_by(alloc, state, setting, contract, passed_on, with)
+    leaves_by(
+        alloc,
+        state,
+        setting,
+        setting.contract_of(func),
+        passed_on,
+        with,
+    )
 }

@@ -10,7 +10,7 @@ ghost use Rattle.outline_rules.specs.States.{number};
 ghost use Rattle.outline_rules.specs.Branches.{takes_branch, table_branches, takes_branches, takes_table, br_table};
 ghost use Rattle.symbolic_state.specs.Refused.{refusal_of};
 ghost use Rattle.symbolic_state.specs.Growth.{Grown};
-ghost use Rattle.symbolic_branches.specs.Labels.{labels_of, AreWellFormed};
+ghost use Rattle.symbolic_branches.specs.Labels.{labels_of};
 
 use crate::facts::{is_from, is_number};
 use crate::instructions::pop_condition;
@@ -37,7 +37,6 @@ fn takes_at(
     take: &Take,
 ) -> Result<(), Refused>
     requires notes { IsTrue (well_formed_notes setting.now.notes) }
-    requires labels { AreWellFormed labels.now }
     requires condition { condition < length state.old.terms }
     requires take { IsTrue (well_formed_take take.now) }
     ensures done { Gives refusal_of (λ _. tt) result (takes_branch setting.now func (labels_of labels.now) k (formula.Eq (tree_at state.old.terms condition) (number place)) take.now state.old.state) }
@@ -62,7 +61,6 @@ fn takes_from(
     take: &Take,
 ) -> Result<(), Refused>
     requires notes { IsTrue (well_formed_notes setting.now.notes) }
-    requires labels { AreWellFormed labels.now }
     requires condition { condition < length state.old.terms }
     requires take { IsTrue (well_formed_take take.now) }
     ensures done { Gives refusal_of (λ _. tt) result (takes_branch setting.now func (labels_of labels.now) k (formula.Le (number count) (tree_at state.old.terms condition)) take.now state.old.state) }
@@ -86,7 +84,6 @@ fn takes_branches(
     takes: &[Take],
 ) -> Result<(), Refused>
     requires notes { IsTrue (well_formed_notes setting.now.notes) }
-    requires labels { AreWellFormed labels.now }
     requires condition { condition < length state.old.terms }
     requires takes { IsTrue (list_all well_formed_take takes.now) }
     requires count { length takes.now ≡ length ks.now + 1 }
@@ -131,7 +128,6 @@ fn takes_table(
     takes: &[Take],
 ) -> Result<(), Refused>
     requires notes { IsTrue (well_formed_notes setting.now.notes) }
-    requires labels { AreWellFormed labels.now }
     requires condition { condition < length state.old.terms }
     requires takes { IsTrue (list_all well_formed_take takes.now) }
     ensures done { Gives refusal_of (λ _. tt) result (takes_table setting.now func (labels_of labels.now) (table_branches 0 ks.now last (tree_at state.old.terms condition)) takes.now state.old.state) }
@@ -159,7 +155,6 @@ pub fn br_table(
     used: &Use,
 ) -> Result<(), Refused>
     requires notes { IsTrue (well_formed_notes setting.now.notes) }
-    requires labels { AreWellFormed labels.now }
     requires used { IsTrue (well_formed_use used.now) }
     ensures done { Gives refusal_of (λ _. tt) result (br_table setting.now func (labels_of labels.now) ks.now last used.now state.old.state) }
     ensures kept { IfOk result (λ _. Grown state.old state.new) }

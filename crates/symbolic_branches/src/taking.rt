@@ -7,7 +7,7 @@ ghost use Rattle.notes.specs.WellFormed.{well_formed_take, well_formed_notes};
 ghost use Rattle.outline_rules.specs.Branches.{takes_branch};
 ghost use Rattle.symbolic_state.specs.Refused.{refusal_of};
 ghost use Rattle.symbolic_state.specs.Growth.{Grown};
-ghost use Rattle.symbolic_branches.specs.Labels.{labels_of, AreWellFormed};
+ghost use Rattle.symbolic_branches.specs.Labels.{labels_of};
 ghost use Rattle.symbolic_branches.specs.words.Parts.{branches_moved};
 
 use crate::branching::branches;
@@ -31,7 +31,6 @@ fn branches_moved(
     take: &Take,
 ) -> Result<(), Refused>
     requires notes { IsTrue (well_formed_notes setting.now.notes) }
-    requires labels { AreWellFormed labels.now }
     requires take { IsTrue (well_formed_take take.now) }
     ensures done { Gives refusal_of (λ _. tt) result (branches_moved setting.now func (labels_of labels.now) k take.now state.old.state) }
     ensures kept { IfOk result (λ _. Grown state.old state.new) }
@@ -53,7 +52,6 @@ fn branches_with(
     take: &Take,
 ) -> Result<(), Refused>
     requires notes { IsTrue (well_formed_notes setting.now.notes) }
-    requires labels { AreWellFormed labels.now }
     requires fact { formula_bound fact ≤ length state.old.terms }
     requires take { IsTrue (well_formed_take take.now) }
     ensures done { Gives refusal_of (λ _. tt) result (takes_branch setting.now func (labels_of labels.now) k (formula_of state.old.terms fact) take.now state.old.state) }
@@ -76,7 +74,6 @@ pub fn takes_branch(
     take: &Take,
 ) -> Result<(), Refused>
     requires notes { IsTrue (well_formed_notes setting.now.notes) }
-    requires labels { AreWellFormed labels.now }
     requires fact { formula_bound fact ≤ length state.old.terms }
     requires take { IsTrue (well_formed_take take.now) }
     ensures done { Gives refusal_of (λ _. tt) result (takes_branch setting.now func (labels_of labels.now) k (formula_of state.old.terms fact) take.now state.old.state) }
