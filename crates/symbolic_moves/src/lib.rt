@@ -5,11 +5,9 @@ mod derivations;
 mod facts;
 mod hole;
 mod lemmas;
-mod moving;
 mod slots;
 mod steps;
 
 pub use derivations::have;
 pub use lemmas::lemma;
-pub use moving::make_moves;
 pub use slots::{let_term, name, put};
