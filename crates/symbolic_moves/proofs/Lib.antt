@@ -1,2 +1,4 @@
 pub mod Lemmata
 pub mod StepWalks
+pub mod Moving
+pub mod Celled
