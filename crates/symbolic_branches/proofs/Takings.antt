@@ -8,7 +8,7 @@ use Rattle.outline_rules.specs.States.{State}
 use Rattle.symbolic_state.specs.declared.snapshot.Snapshot.{Snapshot}
 use Rattle.symbolic_state.specs.States.{Tracked}
 use Rattle.symbolic_state.specs.Growth.{Grown}
-use Rattle.symbolic_state.specs.Snapshots.{Remembers, Follows, Restorable}
+use Rattle.symbolic_state.specs.Snapshots.{Remembers, Follows}
 use Rattle.symbolic_state.proofs.Grows.{grown-table}
 use Rattle.symbolic_state.proofs.Restored.{remembers-kept, restorable, follows-grown}
 
