@@ -1,3 +1,4 @@
-pub mod Walks
 pub mod Lemmata
 pub mod StepWalks
+pub mod Moving
+pub mod Celled

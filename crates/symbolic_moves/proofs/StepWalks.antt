@@ -1,6 +1,6 @@
 -- Steps that are taken, formula by formula in text order.
 use Rattle.std.proofs.Common.{◌≡◌, ℕ, zero, suc, ◌+◌, ◌<◌, ◌≤◌, Bool, true, false, ◌&&◌, List, [], ◌∷◌, ◌++◌, length, map, flat_map, drop, get_or, Option, Some, None, IfSome, IsTrue, refl, sym, ap, subst, ◌∙◌, arith}
-use Rattle.std.specs.Prelude.{Result, Ok, Err, nat_le}
+use Rattle.std.specs.Prelude.{Ok, Err, nat_le}
 use Rattle.std.specs.List.{list_all}
 use Rattle.std.proofs.lemmas.Bool.{le-leb}
 use Rattle.term_trees.proofs.Truths.{both}
@@ -8,7 +8,7 @@ use Rattle.term_trees.specs.declared.term.Formula.{Formula}
 use Rattle.term_trees.specs.Formulas.{well_formed_formula, formula_nodes}
 use Rattle.term_trees.specs.Leaves.{Leaves, replaced_formula}
 use Rattle.bitvector_rules.specs.declared.step.Step.{Step, out-Step, roll-Step, roll-out-Step, fold_out-Step}
-use Rattle.bitvector_rules.specs.Steps.{is_admissible_formula, is_admissible, admissible_here, all_admissible}
+use Rattle.bitvector_rules.specs.Steps.{is_admissible_formula, is_admissible, admissible_here}
 use Rattle.wasm_values.specs.declared.limit.LimitWord.TheVariants as limit
 use Rattle.notes.specs.declared.reason.Reason.TheVariants as reason
 use Rattle.notes.specs.WellFormed.{well_formed_step, well_formed_step_here}
@@ -18,8 +18,9 @@ use Rattle.outline_rules.specs.States.{State}
 use Rattle.symbolic_state.specs.States.{Tracked}
 use Rattle.symbolic_state.specs.Growth.{Grown}
 use Rattle.symbolic_state.proofs.Grows.{grown-same, grown-then}
-use Rattle.symbolic_moves.proofs.Walks.{behind, walk-start, walk-next, walk-stop, walk-end}
-use Rattle.symbolic_moves.specs.words.Walks.{all_by, step_taken, subs_taken, parts_taken}
+use Rattle.symbolic_state.proofs.Walks.{behind, walk-start, walk-next, walk-stop, walk-end}
+use Rattle.symbolic_state.specs.words.Walks.{all_by}
+use Rattle.symbolic_moves.specs.words.Walks.{step_taken, subs_taken, parts_taken}
 
 -- ---- one after another
 

@@ -19,30 +19,9 @@ ghost use Rattle.symbolic_state.specs.Growth.{Grown};
 
 use notes::{Lemma, Reason};
 use outline_setting::Setting;
-use std::alloc::Global;
 use symbolic_state::{Refused, TrackedState, in_place_of_variables};
 use term_logic::{Formula, IdFormula, Term, TermId, TermTable};
 use wasm_values::List;
-
-/// Terms of a move, one by one.
-#[tactic(auto, using(crate::proofs::Lemmata::taking_terms))]
-fn all_taken(
-    alloc: Global,
-    state: &mut TrackedState,
-    terms: &[Term],
-) -> Result<List<TermId>, Refused>
-    requires { IsTrue (list_all well_formed terms.now) }
-    ensures taken { Gives refusal_of (map (tree_at state.new.terms)) result (all_taken (move_leaves state.old.state) terms.now) }
-    ensures within { IfOk result (λ ids. All (λ id. id < length state.new.terms) ids) }
-    ensures state { IfOk result (λ _. state.new.state ≡ state.old.state) }
-    ensures kept { IfOk result (λ _. Grown state.old state.new) }
-{
-    let mut taken = List::new(alloc);
-    for term in terms {
-        taken.push(state.taken(term)?)?;
-    }
-    Ok(taken)
-}
 
 /// Whether a fact is a hypothesis of a lemma, for these terms.
 fn is_instance(table: &TermTable, hyp: &Formula, terms: &[TermId], fact: &IdFormula) -> bool
@@ -166,7 +145,6 @@ fn lemma_of_listed(
 
 /// `use`: the goal of a lemma, with terms for its variables, is one more fact.
 pub fn lemma(
-    alloc: Global,
     setting: &Setting<'_>,
     state: &mut TrackedState,
     name: &str,
@@ -178,6 +156,6 @@ pub fn lemma(
     ensures done { Gives refusal_of (λ _. state.new.state) result (lemma setting.now name.now terms.now facts.now state.old.state) }
     ensures kept { IfOk result (λ _. Grown state.old state.new) }
 {
-    let ids = all_taken(alloc, state, terms)?;
+    let ids = state.all_taken(terms)?;
     lemma_of_listed(setting, state, name, &ids, facts)
 }

@@ -8,7 +8,8 @@ ghost use Rattle.bitvector_rules.specs.declared.step.Step.{out-Step};
 ghost use Rattle.bitvector_rules.specs.Steps.{is_admissible_formula, is_admissible, all_admissible};
 ghost use Rattle.notes.specs.WellFormed.{well_formed_step};
 ghost use Rattle.outline_rules.specs.Leaves.{leaves_with, taken_formula, steps_taken};
-ghost use Rattle.symbolic_moves.specs.words.Walks.{all_by, step_taken, subs_taken, parts_taken};
+ghost use Rattle.symbolic_state.specs.words.Walks.{all_by};
+ghost use Rattle.symbolic_moves.specs.words.Walks.{step_taken, subs_taken, parts_taken};
 ghost use Rattle.symbolic_state.specs.Refused.{refusal_of};
 ghost use Rattle.symbolic_state.specs.Growth.{Grown};
 

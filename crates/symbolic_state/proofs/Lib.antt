@@ -17,3 +17,7 @@ pub mod Restored
 pub mod HeapMoved
 pub mod Sized
 pub mod Remembered
+pub mod LeftOver
+pub mod Walks
+pub mod Takes
+pub mod AssertionLeaves

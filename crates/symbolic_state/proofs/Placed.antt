@@ -19,16 +19,16 @@ use Rattle.symbolic_state.proofs.Lists.{All-reverse}
 
 -- ---- items of lists whose items are within
 
-all-some : {A : Type 0} (P : A → Type 0) (xs : List A) (k : ℕ) → All P xs → IfSome (slice_get xs k) P
+pub all-some : {A : Type 0} (P : A → Type 0) (xs : List A) (k : ℕ) → All P xs → IfSome (slice_get xs k) P
 all-some P [] k h = tt
 all-some P (x ∷ xs) zero h = All-head P x xs h
 all-some P (x ∷ xs) (suc k) h = all-some P xs k (All-tail P x xs h)
 
-mapped-some : {A B : Type 0} (P : B → Type 0) (f : A → B) (o : Option A) → IfSome o (λ a. P (f a)) → IfSome (option_map f o) P
+pub mapped-some : {A B : Type 0} (P : B → Type 0) (f : A → B) (o : Option A) → IfSome o (λ a. P (f a)) → IfSome (option_map f o) P
 mapped-some P f None h = tt
 mapped-some P f (Some a) h = h
 
-joined-some : {A : Type 0} (P : A → Type 0) (o : Option (Option A)) → IfSome o (λ p. IfSome p P) → IfSome (option_and_then (λ p. p) o) P
+pub joined-some : {A : Type 0} (P : A → Type 0) (o : Option (Option A)) → IfSome o (λ p. IfSome p P) → IfSome (option_and_then (λ p. p) o) P
 joined-some P None h = tt
 joined-some P (Some p) h = h
 
@@ -43,10 +43,10 @@ module _ (ts : List Term) where
   joined-term None = refl
   joined-term (Some p) = refl
 
-  entry-at : (es : List (ValType × ℕ)) (k : ℕ) → option_map (tree_at ts) (option_map (λ e. e.1) (slice_get es k)) ≡ option_map (λ e. e.1) (slice_get (map (entry_at ts) es) k)
+  pub entry-at : (es : List (ValType × ℕ)) (k : ℕ) → option_map (tree_at ts) (option_map (λ e. e.1) (slice_get es k)) ≡ option_map (λ e. e.1) (slice_get (map (entry_at ts) es) k)
   entry-at es k = entry-term (slice_get es k) ∙ ap (option_map (λ e. e.1)) (sym (slice_get-map (entry_at ts) es k))
 
-  global-at : (gs : List (Option ℕ)) (k : ℕ) → option_map (tree_at ts) (option_and_then (λ p. p) (slice_get gs k)) ≡ option_and_then (λ p. p) (slice_get (map (option_map (tree_at ts)) gs) k)
+  pub global-at : (gs : List (Option ℕ)) (k : ℕ) → option_map (tree_at ts) (option_and_then (λ p. p) (slice_get gs k)) ≡ option_and_then (λ p. p) (slice_get (map (option_map (tree_at ts)) gs) k)
   global-at gs k = joined-term (slice_get gs k) ∙ ap (option_and_then (λ p. p)) (sym (slice_get-map (option_map (tree_at ts)) gs k))
 
   module _ (s : SymState) (l : LeafIds) (is : AreSlotsOf s l) where

@@ -11,6 +11,7 @@ mod copies;
 mod entries;
 mod formulas;
 mod instances;
+mod keeping;
 mod limits;
 mod making;
 mod moving;
@@ -31,6 +32,7 @@ mod variables;
 
 pub use formulas::{at_most, below, both, denied, either, equal};
 pub use instances::in_place_of_variables;
+pub use keeping::is_among;
 pub use refused::Refused;
 pub use snapshot::Snapshot;
 pub use state::SymState;

@@ -1,10 +1,11 @@
-ghost use Rattle.std.specs.Prelude.{◌≡◌, ◌<◌, ◌≤◌, length, IfOk, IsTrue};
+ghost use Rattle.std.specs.Prelude.{◌≡◌, ◌<◌, ◌≤◌, length, map, IfOk, IsTrue};
+ghost use Rattle.std.specs.List.{All, list_all};
 ghost use Rattle.wasm_values.specs.Answers.{Gives};
 ghost use Rattle.term_trees.specs.Terms.{well_formed};
 ghost use Rattle.term_trees.specs.Formulas.{well_formed_formula, formula_nodes};
 ghost use Rattle.term_logic.specs.Table.{tree_at};
 ghost use Rattle.term_logic.specs.Formulas.{formula_bound, formula_of};
-ghost use Rattle.outline_rules.specs.Leaves.{leaves_with, move_leaves, in_row, taken, taken_formula};
+ghost use Rattle.outline_rules.specs.Leaves.{leaves_with, move_leaves, in_row, taken, taken_formula, all_taken};
 ghost use Rattle.term_logic.specs.Leaves.{LeavesWithin};
 ghost use Rattle.term_logic.specs.Extends.{Extends};
 ghost use Rattle.heap_logic.specs.Faults as move_fault;
@@ -24,7 +25,7 @@ use notes::Reason;
 use term_logic::{
     Formula, IdFormula, LeafIds, LeafScope, Term, TermId, TermTable, formula_in_scope,
 };
-use wasm_values::LimitWord;
+use wasm_values::{LimitWord, List};
 
 /// A formula of a move, its leaves replaced by the terms of the slots. Variables below `vars` stand for themselves.
 fn taken_formula_by(
@@ -130,6 +131,22 @@ impl TrackedState {
     {
         let variables = self.variables();
         self.taken_with(variables, t)
+    }
+
+    /// Terms of a move are taken, one by one.
+    #[tactic(auto, using(crate::proofs::Takes::taking_terms))]
+    pub fn all_taken(&mut self, terms: &[Term]) -> Result<List<TermId>, Refused>
+        requires { IsTrue (list_all well_formed terms.now) }
+        ensures taken { Gives refusal_of (map (tree_at self.new.terms)) result (all_taken (move_leaves self.old.state) terms.now) }
+        ensures within { IfOk result (λ ids. All (λ id. id < length self.new.terms) ids) }
+        ensures state { IfOk result (λ _. self.new.state ≡ self.old.state) }
+        ensures kept { IfOk result (λ _. Grown self.old self.new) }
+    {
+        let mut taken = List::new(self.alloc);
+        for term in terms {
+            taken.push(self.taken(term)?)?;
+        }
+        Ok(taken)
     }
 
     /// A formula with the leaves of the state and so many variables is taken.

@@ -55,12 +55,15 @@ abbrev pub cell_hyps : (index item count zero greatest : Term) → (says : Formu
 cell_hyps i v n zero greatest says =
     formula.Le zero i ∷ formula.Lt i n ∷ formula.Le zero v ∷ formula.Le v greatest ∷ says ∷ []
 
--- what `each` does with steps that are taken
-abbrev pub each_with : ℕ → Formula → List Step → State → Ruling State
-each_with c h taken_steps s =
-    row_at s c >>= λ r.
+-- what `each` does with a row and steps that are taken
+abbrev pub each_over : ℕ → Formula → List Step → ℕ × Term × Term × Formula → State → Ruling State
+each_over c h taken_steps r s =
     derived (s.facts ++ row_hyps s r.0 r.2 r.3) (at_position h (any_index s) (any_item s)) taken_steps
     >> settled [] (with_chunk c (Row r.0 r.1 r.2 h) s)
+
+-- what `each` does with steps that are taken
+abbrev pub each_with : ℕ → Formula → List Step → State → Ruling State
+each_with c h taken_steps s = row_at s c >>= λ r. each_over c h taken_steps r s
 
 -- what `each` does with a formula that is taken
 abbrev pub each_of : ℕ → Formula → List Step → State → Ruling State

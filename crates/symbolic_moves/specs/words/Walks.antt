@@ -1,15 +1,11 @@
--- Lists that are taken one by one, up to the first refusal.
-use Rattle.std.specs.Prelude.{List, [], ◌∷◌, Ok}
+-- Steps that are taken one by one, up to the first refusal.
+use Rattle.std.specs.Prelude.{List, Ok}
 use Rattle.term_trees.specs.declared.term.Formula.{Formula}
 use Rattle.term_trees.specs.Leaves.{Leaves}
 use Rattle.bitvector_rules.specs.declared.step.Step.{Step, out-Step}
 use Rattle.outline_rules.specs.Refusals.{Ruling, ◌>>=◌, ◌>>◌}
+use Rattle.symbolic_state.specs.words.Walks.{all_by}
 use Rattle.outline_rules.specs.Leaves.{all_formulas_taken, step_formulas, replaced_step, taken_formula}
-
--- what comes of each item, or the first refusal
-abbrev pub all_by : {A B : Type 0} → (A → Ruling B) → List A → Ruling (List B)
-all_by test [] = Ok []
-all_by test (x ∷ xs) = test x >>= λ y. all_by test xs >>= λ ys. Ok (y ∷ ys)
 
 -- one step is taken
 abbrev pub step_taken : Leaves → Step → Ruling Step

@@ -23,6 +23,19 @@ pub record AreSlotsOf (s : SymState) (l : LeafIds) : Type 0 where
   pub index : l.index ≡ None
   pub item : l.item ≡ None
 
+-- the leaves are those of an assertion over a state, with terms for own variables, for `(arg i)` and for `(result)`
+pub record AreLeavesOf (s : SymState) (owned given : List ℕ) (answer : Option ℕ) (l : LeafIds) : Type 0 where
+  pub variables : l.variables.now ≡ []
+  pub own : l.own.now ≡ owned
+  pub locals : l.locals.now ≡ s.locals
+  pub stack : l.stack.now ≡ s.stack
+  pub globals : l.globals.now ≡ s.globals
+  pub pages : l.pages ≡ s.pages
+  pub args : l.args.now ≡ given
+  pub result : l.result ≡ answer
+  pub index : l.index ≡ None
+  pub item : l.item ≡ None
+
 -- the last entry goes, and its position is told
 abbrev pub PopsTerm : (old new : List (ValType × ℕ)) → Option ℕ → Type 0
 PopsTerm old new None = (old ≡ []) × (new ≡ [])

@@ -6,7 +6,8 @@ use Rattle.notes.specs.WellFormed.{well_formed_step}
 use Rattle.std.proofs.lemmas.Result.{err_from_is_err_and}
 use Rattle.outline_rules.specs.Leaves.{leaves_with}
 use Rattle.symbolic_state.specs.Refused.{refusal_of}
-use Rattle.symbolic_moves.specs.words.Walks.{all_by, step_taken}
+use Rattle.symbolic_state.specs.words.Walks.{all_by}
+use Rattle.symbolic_moves.specs.words.Walks.{step_taken}
 use Rattle.symbolic_moves.proofs.StepWalks.{all-at, subs-well-formed, step-fail, parts-give, parts-fail, Taking, taking-next, taking-stop}
 use Rattle.symbolic_moves.proofs.steps.+taking.Goals as goal
 

@@ -3,7 +3,8 @@ use Rattle.std.specs.List.{list_all}
 use Rattle.bitvector_rules.specs.Steps.{is_admissible}
 use Rattle.bitvector_rules.proofs.Weights.{weight, weights, weights_of}
 use Rattle.outline_rules.specs.Leaves.{leaves_with}
-use Rattle.symbolic_moves.specs.words.Walks.{all_by, step_taken}
+use Rattle.symbolic_state.specs.words.Walks.{all_by}
+use Rattle.symbolic_moves.specs.words.Walks.{step_taken}
 use Rattle.symbolic_moves.proofs.StepWalks.{Taking}
 use Rattle.symbolic_moves.proofs.steps.+taking.Given as goal
 

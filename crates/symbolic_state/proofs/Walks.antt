@@ -1,9 +1,9 @@
 -- Lists that are gone through one by one.
-use Rattle.std.proofs.Common.{◌≡◌, ℕ, ◌+◌, ◌<◌, ◌≤◌, List, [], ◌∷◌, ◌++◌, length, map, flat_map, drop, get_or, refl, sym, ap, ◌∙◌}
-use Rattle.std.specs.Prelude.{Result, Ok, Err}
+use Rattle.std.proofs.Common.{◌≡◌, ℕ, ◌+◌, ◌<◌, ◌≤◌, List, [], ◌∷◌, ◌++◌, length, drop, get_or, refl, sym, ap, ◌∙◌}
+use Rattle.std.specs.Prelude.{Ok, Err}
 use Rattle.std.proofs.lemmas.List.{append-nil, append_assoc, drop_more, drop_all}
-use Rattle.outline_rules.specs.Refusals.{Ruling, Refusal, ◌>>=◌, ◌>>◌}
-use Rattle.symbolic_moves.specs.words.Walks.{all_by}
+use Rattle.outline_rules.specs.Refusals.{Ruling, Refusal, ◌>>=◌}
+use Rattle.symbolic_state.specs.words.Walks.{all_by}
 
 -- what comes of the rest, behind what is done
 abbrev pub behind : {B : Type 0} → List B → Ruling (List B) → Ruling (List B)
