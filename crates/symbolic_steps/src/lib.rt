@@ -11,7 +11,10 @@ mod numeric;
 mod plain;
 mod variables;
 
-pub use forms::{cell_of, label_of, take_of, trap_of, unused};
+pub use forms::{
+    both_of, cell_of, empty_with, label_of, loop_of, skip_of, table_of, take_of, trap_of, unused,
+    with_of,
+};
 pub use growing::memory_grow;
 pub use memory::{load_private, memory_size, store_private};
 pub use numeric::{numeric_one, push_two};

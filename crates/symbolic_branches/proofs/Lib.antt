@@ -1,0 +1,4 @@
+pub mod Leavings
+pub mod Labelled
+pub mod Takings
+pub mod Tabling
