@@ -38,11 +38,12 @@ module _ (body : List Instr) (p : ℕ) where
 
   pub over_choice : (ty : Option ValType) (first second after : ℕ) → ChoiceAt body p ty first second after → IsFurther body p after
   over_choice ty first second after at = elim at.sides [
-      inl one ↦
+    | inl one ↦
         over (tree.If ty (rest_at body first)) after (omega arith)
         (let begins = one.begins in let turns = one.turns in let ends = one.ends in omega arith) at.within one.rest
     | inr both ↦
         over (tree.IfElse ty (rest_at body first) (rest_at body second)) after (omega arith)
-        (let begins = both.begins in let turns = both.turns in let ends = both.ends in omega arith) at.within both.rest ]
+        (let begins = both.begins in let turns = both.turns in let ends = both.ends in omega arith) at.within both.rest
+  ]
 
 pub ruleset goings = (over_one, over_block, over_loop, over_choice)

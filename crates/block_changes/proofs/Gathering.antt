@@ -95,5 +95,4 @@ module _ (old new : ChangeSet) (body : List Instr) (p q : ℕ) (far : q ≡ p + 
     pages = pair is_growth old.growth new.growth g.growth j;
   }
 
-
 pub ruleset gathering = (sees_nothing, gathers_none, gathers_more, gathers_side)

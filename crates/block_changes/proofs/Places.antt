@@ -71,6 +71,7 @@ module _ (test : Instruction → Bool) (body : List Instr) where
 
   mutual
     unfolding any_in
+
     any-instruction : (p : ℕ) (i : Instruction) (s : Sequence) → InstructionAt body p i s → any_in test body p (size_of i) ≡ has test i
     any-instruction p (tree.Block ty inside) s at =
         any-part p (size_of_all inside) (Block ty) (has_some test inside) at.item refl (any-sequence (p + 1) inside at.parts)
@@ -85,9 +86,9 @@ module _ (test : Instruction → Bool) (body : List Instr) where
         let size : 1 + size_of_all first + 1 + size_of_all second + 1 ≡ 1 + (size_of_all first + 1 + size_of_all second) + 1 = omega arith in
         ap (any_in test body p) size
         ∙ any-part p (size_of_all first + 1 + size_of_all second) (If ty) (has_some test first || has_some test second) at.item refl
-          (any-sides (p + 1) (size_of_all first) (size_of_all second) _ _ (any-sequence (p + 1) first at.parts.0) at.parts.1 (any-sequence (p + 1 + size_of_all first + 1) second at.parts.2))
-          (subst (StopsAt body) (omega arith)
-           (stops (p + 1 + size_of_all first + 1) (size_of_all second) second (omega (arith, at.within)) at.parts.2 refl))
+        (any-sides (p + 1) (size_of_all first) (size_of_all second) _ _ (any-sequence (p + 1) first at.parts.0) at.parts.1 (any-sequence (p + 1 + size_of_all first + 1) second at.parts.2))
+        (subst (StopsAt body) (omega arith)
+        (stops (p + 1 + size_of_all first + 1) (size_of_all second) second (omega (arith, at.within)) at.parts.2 refl))
     any-instruction p i s at = any-one p (item_of i) at.item ∙ ap test (instruction_of-instr_from i)
 
     any-sequence : (p : ℕ) (s : Sequence) → rest_at body p ≡ s → any_in test body p (size_of_all s) ≡ has_some test s

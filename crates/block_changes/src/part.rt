@@ -69,11 +69,7 @@ impl ChangeSet {
 }
 
 /// What the code of a part from a place to the part's `else` or `end` may change.
-pub fn changes_from(
-    alloc: Global,
-    code: &Code,
-    from: usize,
-) -> Result<ChangeSet, OutOfMemory>
+pub fn changes_from(alloc: Global, code: &Code, from: usize) -> Result<ChangeSet, OutOfMemory>
     requires { from < length (flat_body code.now) }
     ensures { IfOk result (λ s. changes_seen s ≡ changes_of (rest_at code.now from)) }
 {

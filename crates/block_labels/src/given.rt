@@ -44,7 +44,10 @@ fn chunk_there(chunk: &Chunk, scope: &LabelScope<'_>) -> bool
         Chunk::Cell { at, value, .. } => terms_there(at, value, scope),
         Chunk::Region { at, len } => terms_there(at, len, scope),
         Chunk::Row {
-            at, count, each, ..
+            at,
+            count,
+            each,
+            ..
         } => in_scope(at, scope) && (in_scope(count, scope) && row_there(each, scope)),
     }
 }
