@@ -1,17 +1,19 @@
 // What the initial state entails, without an inner start function and with one.
 
-ghost use Rattle.std.specs.Prelude.{◌≡◌, ◌<◌, length, map, None, IfOk, IsTrue, Ok};
+ghost use Rattle.std.specs.Prelude.{◌≡◌, ◌<◌, [], length, map, None, IfOk, IsTrue, Ok};
 ghost use Rattle.std.specs.List.{All};
 ghost use Rattle.std.specs.Option.{option_map};
 ghost use Rattle.wasm_values.specs.Answers.{Gives};
 ghost use Rattle.term_logic.specs.Table.{tree_at};
 ghost use Rattle.notes.specs.WellFormed.{where_there, well_formed_assertion, well_formed_with, well_formed_take, well_formed_contract, well_formed_initial, well_formed_notes};
-ghost use Rattle.outline_rules.specs.Settings.{contract_of};
+ghost use Rattle.outline_rules.specs.Settings.{func_type, contract_of};
 ghost use Rattle.outline_rules.specs.Entailment.{chunks_besides};
+ghost use Rattle.outline_rules.specs.Calls.{comes_back};
 ghost use Rattle.outline_rules.specs.Initial.{settled_after, start_inner, start_none, start_by, started};
 ghost use Rattle.symbolic_state.specs.Refused.{refusal_of};
 ghost use Rattle.symbolic_state.specs.Growth.{Grown};
-ghost use Rattle.outline_initial.specs.words.Parts.{entailed_plainly, terms_entailed, after_wanted, no_after, entry_resumed};
+ghost use Rattle.symbolic_calls.specs.words.Parts.{left_by};
+ghost use Rattle.outline_initial.specs.words.Parts.{entailed_plainly, terms_entailed, after_wanted, no_after, resumed, resumed_with};
 
 use notes::{Assertion, Contract, Initial, Reason, Take, With};
 use outline_setting::Setting;
@@ -101,7 +103,53 @@ fn no_after(initial: &Initial) -> Result<(), Refused>
     }
 }
 
-/// What comes back from a start function with this contract, whose precondition was entailed for these terms.
+/// What comes back from a start function with this contract, whose precondition was entailed with these terms and chunks.
+fn come_back_from(
+    state: &mut TrackedState,
+    setting: &Setting<'_>,
+    func: u32,
+    contract: &Contract,
+    with: &With,
+    terms: &List<TermId>,
+) -> Result<(), Refused>
+    requires contract { IsTrue (well_formed_contract contract.now) }
+    requires terms { All (λ id. id < length state.old.terms) terms.now }
+    ensures { Gives refusal_of (λ _. state.new.state) result (comes_back setting.now contract.now (func_type setting.now func) [] state.old.state (left_by (map (tree_at state.old.terms) terms.now) with.now.chunks state.old.state)) }
+{
+    let ty = setting.func_type(func);
+    come_back(
+        state,
+        setting,
+        contract,
+        ty,
+        &[],
+        terms.as_slice(),
+        with.chunks.as_slice(),
+    )
+}
+
+/// The start function comes back, and its `after` leads to the invariant.
+fn resume_with(
+    alloc: Global,
+    state: &mut TrackedState,
+    setting: &Setting<'_>,
+    func: u32,
+    contract: &Contract,
+    with: &With,
+    terms: &List<TermId>,
+    after: &Take,
+) -> Result<(), Refused>
+    requires notes { IsTrue (well_formed_notes setting.now.notes) }
+    requires contract { IsTrue (well_formed_contract contract.now) }
+    requires terms { All (λ id. id < length state.old.terms) terms.now }
+    requires after { IsTrue (well_formed_take after.now) }
+    ensures { Gives refusal_of (λ _. tt) result (resumed_with setting.now func contract.now after.now state.old.state (left_by (map (tree_at state.old.terms) terms.now) with.now.chunks state.old.state)) }
+{
+    come_back_from(state, setting, func, contract, with, terms)?;
+    settle_after(alloc, state, setting, after)
+}
+
+/// What is wanted once the precondition of a start function was entailed for these terms.
 fn resume(
     alloc: Global,
     state: &mut TrackedState,
@@ -109,19 +157,17 @@ fn resume(
     func: u32,
     contract: &Contract,
     initial: &Initial,
-    terms: &[TermId],
+    terms: &List<TermId>,
 ) -> Result<(), Refused>
     requires notes { IsTrue (well_formed_notes setting.now.notes) }
     requires contract { IsTrue (well_formed_contract contract.now) }
     requires initial { IsTrue (well_formed_initial initial.now) }
     requires terms { All (λ id. id < length state.old.terms) terms.now }
-    ensures { Gives refusal_of (λ _. tt) result (entry_resumed setting.now func contract.now initial.now state.old.state (record { terms = map (tree_at state.old.terms) terms.now; left = chunks_besides initial.now.with.chunks 0 state.old.state.chunks })) }
+    ensures { Gives refusal_of (λ _. tt) result (resumed setting.now func contract.now initial.now state.old.state (left_by (map (tree_at state.old.terms) terms.now) initial.now.with.chunks state.old.state)) }
 {
     let after = after_wanted(initial)?;
-    let ty = setting.func_type(func);
-    let used = initial.with.chunks.as_slice();
-    come_back(alloc, state, setting, contract, ty, &[], used, terms)?;
-    settle_after(alloc, state, setting, after)
+    let with = &initial.with;
+    resume_with(alloc, state, setting, func, contract, with, terms, after)
 }
 
 /// A start function with this contract: its precondition is entailed, and `after` tells of its return.
@@ -139,15 +185,7 @@ fn start_inner(
     ensures { Gives refusal_of (λ _. tt) result (start_inner setting.now func contract.now initial.now state.old.state) }
 {
     let terms = entail_plainly(alloc, state, &contract.pre, &initial.with)?;
-    resume(
-        alloc,
-        state,
-        setting,
-        func,
-        contract,
-        initial,
-        terms.as_slice(),
-    )
+    resume(alloc, state, setting, func, contract, initial, &terms)
 }
 
 /// No inner start function: the invariant is entailed, and there is no `after`.

@@ -39,10 +39,13 @@ after_wanted initial = found reason.Use initial.after
 abbrev pub no_after : Initial → Ruling (Unit {0})
 no_after initial = wanted reason.Use (is_none initial.after)
 
--- what comes back from a start function with this contract, whose precondition was entailed so
-abbrev pub entry_resumed : Setting → (func : ℕ) → Contract → Initial → State → Entailed → Ruling (Unit {0})
-entry_resumed c f contract initial s e =
-    found reason.Use initial.after >>= λ t. comes_back c contract (func_type c f) [] s e >>= settled_after c t
+-- a start function with this contract, whose precondition was entailed so, comes back, and this `after` leads to the invariant
+abbrev pub resumed_with : Setting → (func : ℕ) → Contract → Take → State → Entailed → Ruling (Unit {0})
+resumed_with c f contract t s e = comes_back c contract (func_type c f) [] s e >>= settled_after c t
+
+-- the same, for the `after` that there has to be
+abbrev pub resumed : Setting → (func : ℕ) → Contract → Initial → State → Entailed → Ruling (Unit {0})
+resumed c f contract initial s e = found reason.Use initial.after >>= λ t. resumed_with c f contract t s e
 
 -- the moves of the initial part, and the start
 abbrev pub moved_and_started : Setting → Initial → State → Ruling (Unit {0})
