@@ -4,7 +4,7 @@ ghost use Rattle.std.specs.Prelude.{◌≡◌};
 ghost use Rattle.sexp_text.specs.Reading.{Gives};
 ghost use Rattle.notes_grammar.specs.Parts.{parts_of};
 ghost use Rattle.notes_parts.specs.Seen.{headed_seen};
-ghost use Rattle.notes_moves.specs.words.HeapMoves.{second, heap_kind, one_move, two_move, term_move, part_move, rows_read, heap_formed};
+ghost use Rattle.notes_moves.specs.words.HeapMoves.{second, heap_kind, one_move, two_move, term_move, part_move, enrow_read, rows_read, heap_formed};
 
 use notes::HeapMove;
 use notes_grammar::Head;
@@ -132,6 +132,21 @@ fn part_move(kind: OnPart, parts: (u32, Term, u32, u32)) -> HeapMove
     }
 }
 
+/// The `enrow` of these parts.
+fn read_enrow(
+    alloc: Global,
+    context: &Context,
+    close: usize,
+    parts: &[Sexp],
+) -> Result<HeapMove, TextFault>
+    ensures { Gives (λ m. m) result (enrow_read context.now.later close (parts_of parts.now)) }
+{
+    let (chunk, each, fact) = whole_three::<u32, Smalls, Formula, Formulas, u32, Smalls>(
+        alloc, context, close, parts,
+    )?;
+    Ok(HeapMove::Enrow(chunk, each, fact))
+}
+
 /// The `rows` of these parts.
 fn read_rows(
     alloc: Global,
@@ -181,12 +196,7 @@ pub(crate) fn heap_formed(
             )?;
             Ok(part_move(kind, parts))
         }
-        HeapKind::Enrow => {
-            let (chunk, each, fact) = whole_three::<u32, Smalls, Formula, Formulas, u32, Smalls>(
-                alloc, context, close, rest,
-            )?;
-            Ok(HeapMove::Enrow(chunk, each, fact))
-        }
+        HeapKind::Enrow => read_enrow(alloc, context, close, rest),
         HeapKind::Rows => read_rows(alloc, context, close, rest),
         HeapKind::Other => form(headed.at),
     }

@@ -61,6 +61,9 @@ abbrev pub part_move : OnPart → ℕ × Term × ℕ × ℕ → HeapMove
 part_move at_part.Split x = heap.Split x.0 x.1 x.2 x.3
 part_move at_part.Pick x = heap.Pick x.0 x.1 x.2 x.3
 
+abbrev pub enrow_read : Bool → ℕ → Parts → Result HeapMove TextFault
+enrow_read later close ps = whole_three small (formula_in later) small close ps >>= λ x. Ok (heap.Enrow x.0 x.1 x.2)
+
 abbrev pub rows_read : Bool → ℕ → Parts → Result HeapMove TextFault
 rows_read later close ps =
     field small close ps >>= λ c. field width close c.1 >>= λ w. whole_one (formula_in later) close w.1 >>= λ e. Ok (heap.Rows c.0 w.0 e)
@@ -71,6 +74,6 @@ heap_formed later (kind.One k) h = whole_one small h.close h.rest >>= λ c. Ok (
 heap_formed later (kind.Two k) h = whole_three small small small h.close h.rest >>= λ x. Ok (two_move k x)
 heap_formed later (kind.Term k) h = whole_three small (term_in later) small h.close h.rest >>= λ x. Ok (term_move k x)
 heap_formed later (kind.Part k) h = whole_four small (term_in later) small small h.close h.rest >>= λ x. Ok (part_move k x)
-heap_formed later kind.Enrow h = whole_three small (formula_in later) small h.close h.rest >>= λ x. Ok (heap.Enrow x.0 x.1 x.2)
+heap_formed later kind.Enrow h = enrow_read later h.close h.rest
 heap_formed later kind.Rows h = rows_read later h.close h.rest
 heap_formed later kind.Other h = form h.at
